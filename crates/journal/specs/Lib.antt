@@ -1,0 +1,4 @@
+pub mod Folders
+pub mod Replay
+pub mod Rows
+pub mod Searches

@@ -1,0 +1,4 @@
+pub mod Order
+pub mod Weight
+pub mod Card
+pub mod Bytes

@@ -1,0 +1,4 @@
+// The interface of a lawful order, the two kinds of priority, and their written forms.
+pub mod card;
+pub mod priority;
+pub mod weight;
