@@ -5,3 +5,4 @@ pub mod Searches
 pub mod Refusals
 pub mod Racks
 pub mod ShortJournals
+pub mod Entering

@@ -57,7 +57,12 @@ fn place_of<P: Priority>(slots: &[Folder<P>], n: usize, priority: &P, stamp: u32
 }
 
 // Puts a folder among the first n, in its place.
-fn put_in<P: Priority>(slots: &mut [Folder<P>], n: usize, capacity: usize, folder: &Folder<P>) -> Result<(), ListRefusal>
+fn put_in<P: Priority>(
+    slots: &mut [Folder<P>],
+    n: usize,
+    capacity: usize,
+    folder: &Folder<P>,
+) -> Result<(), ListRefusal>
     requires within { ⌜ n ≤ capacity ⌝ }
     requires room { ⌜ capacity ≤ length (now slots) ⌝ }
     ensures { λ r. ⌜ Changed (P·Priority .notBehind) capacity (put-rule (P·Priority .notBehind) capacity (take n (now (slots .entry))) (now (folder .entry))) (take n (now (slots .entry))) (take (cond (isOk r) (n + 1) n) (now (slots .exit))) (reply list-refusal r) ⌝ }
@@ -74,7 +79,12 @@ fn put_in<P: Priority>(slots: &mut [Folder<P>], n: usize, capacity: usize, folde
 }
 
 // Removes the folder of a priority and stamp from among the first n.
-fn remove_from<P: Priority>(slots: &mut [Folder<P>], n: usize, priority: &P, stamp: u32) -> Result<(), ListRefusal>
+fn remove_from<P: Priority>(
+    slots: &mut [Folder<P>],
+    n: usize,
+    priority: &P,
+    stamp: u32,
+) -> Result<(), ListRefusal>
     requires { ⌜ n ≤ length (now slots) ⌝ }
     ensures { λ r. ⌜ Changed (P·Priority .notBehind) n (remove-rule (P·Priority .notBehind) (take n (now (slots .entry))) (now (priority .entry)) stamp) (take n (now (slots .entry))) (take (cond (isOk r) (n - 1) n) (now (slots .exit))) (reply list-refusal r) ⌝ }
 {
