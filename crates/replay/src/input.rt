@@ -39,7 +39,11 @@ fn arrival(rest: &[u8]) -> Line {
     let (weight, rest) = take_word(rest);
     let (folder, rest) = take_word(rest);
     let (more, _) = take_word(rest);
-    let (Some(stamp), Some(weight), Some(number)) = (number_32(stamp), number(weight), number_32(folder)) else {
+    let (Some(stamp), Some(weight), Some(number)) = (
+        number_32(stamp),
+        number(weight),
+        number_32(folder),
+    ) else {
         return Line::Unreadable;
     };
     if !more.is_empty() {

@@ -1,9 +1,11 @@
 // The report: what the slips leave on the rack, and the runs.
 use crate::input::Slips;
 use journal::folder::Folder;
+use journal::folder::FolderClone;
 use journal::rack::Rack;
 use journal::refusal::Refusal;
 use orders::weight::Weight;
+use orders::weight::WeightPriority;
 use racks::flat::FlatRack;
 use racks::flat::FlatRackRack;
 use slips::replay::replay_into;
@@ -11,8 +13,6 @@ use slips::run::plan;
 use std::alloc::AllocError;
 use std::alloc::Global;
 use std::error::AnyError;
-use journal::folder::FolderClone;
-use orders::weight::WeightPriority;
 
 // The folders of a rack, foremost first.
 fn folders_of<R: Rack<Weight>>(heap: Global, rack: &R) -> Result<Vec<Folder<Weight>>, AllocError> {
@@ -26,7 +26,10 @@ fn folders_of<R: Rack<Weight>>(heap: Global, rack: &R) -> Result<Vec<Folder<Weig
 }
 
 // The waiting list that the slips leave, or why there is none.
-fn waiting_list(heap: Global, slips: &Slips) -> Result<Result<Vec<Folder<Weight>>, Refusal>, AnyError> {
+fn waiting_list(
+    heap: Global,
+    slips: &Slips,
+) -> Result<Result<Vec<Folder<Weight>>, Refusal>, AnyError> {
     let Ok(weight) = Weight::new(0) else {
         return Err("no weight of 0".into());
     };

@@ -1,4 +1,4 @@
--- Walks over a word's bytes, and what is left past a mark.
+-- Walks over a word's bytes.
 use mathlib.Core.Path.{_≡_, refl, sym, ap, _∙_}
 use mathlib.Core.Bool.{Bool, true, false, cond, _&&_}
 use mathlib.Core.List.{List, [], _∷_}
@@ -6,8 +6,8 @@ use Prim.Native.Nat.{ℕ, suc, _+_, _-_, _*_, _≤_, _<_, min}
 use native.Mathlib.Numerals.{add-one}
 use native.Mathlib.Omega.{arith}
 use lib.Dec.{eqb, leb}
-use lib.ListN.{length, take, drop, getD, length-drop, drop-of-length-le}
-use lib.Seq.{drop-cons, drop-drop, take-all}
+use lib.ListN.{length, take, drop, getD}
+use lib.Seq.{drop-cons}
 use Rattle.std.specs.declared.option.Option.{Option}
 use Rattle.std.specs.declared.option.Option.the-variants.{Some, None}
 use Rattle.std.proofs.shelf.Sums.{folded-more}
@@ -29,14 +29,3 @@ decimal-more bs i lt = folded-more (λ m b. m * 10 + (b - 48)) 0 bs i 0 lt
 pub decimal-of : (largest : ℕ) (bs : List ℕ) → eqb (length bs) 0 ≡ false → decimal largest bs ≡ cond (digits bs) (Some (min (decimal-after 0 bs) largest)) None
 decimal-of largest [] h = let z : _≡_ {A = ℕ} 0 1 = cc in absurd (let o : ⊥ = omega arith in o)
 decimal-of largest (b ∷ bs) h = refl
-
--- past a part that is all
-pub past-all : (bs back : List ℕ) (n : ℕ) → back ≡ drop n bs → eqb (length back) 0 ≡ true → back ≡ drop (n + 1) bs
-past-all bs back n is none =
-    let long = ap length is ∙ length-drop n bs in
-    let short : length bs ≤ n = grind (arith, tells) in
-    is ∙ drop-of-length-le bs {i = n} short ∙ sym (drop-of-length-le bs {i = n + 1} (omega arith))
-
--- past the first of the rest
-pub past-one : (bs back : List ℕ) (n : ℕ) → back ≡ drop n bs → take (length back - 1) (drop 1 back) ≡ drop (n + 1) bs
-past-one bs back n is = take-all (length back - 1) (drop 1 back) (omega (arith, length-drop 1 back)) ∙ ap (drop 1) is ∙ drop-drop 1 n bs

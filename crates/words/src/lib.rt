@@ -1,9 +1,9 @@
 // Lines, words and numbers of the programs' language.
 ghost use mathlib.Core.Bool.{Bool, not};
 ghost use mathlib.Core.Path.{_≡_};
-ghost use Prim.Native.Nat.{ℕ, _≤_};
+ghost use Prim.Native.Nat.{ℕ, _+_, _≤_};
 ghost use lib.Dec.{eqb};
-ghost use lib.ListN.{length};
+ghost use lib.ListN.{length, drop};
 ghost use Rattle.std.specs.shelf.Lists.{leading};
 ghost use Rattle.words.specs.Words.{same, before, after, blank, first-word, past-word, decimal};
 
@@ -52,18 +52,25 @@ fn count_while<T: ByteTest>(bytes: &[u8], test: &T) -> usize
     bytes.len()
 }
 
+// The bytes past the first n and one more.
+fn past(bytes: &[u8], n: usize) -> &[u8]
+    ensures { λ r. ⌜ now r ≡ drop (n + 1) (now (bytes .entry)) ⌝ }
+{
+    if n < bytes.len() {
+        &bytes[n + 1..]
+    } else {
+        &bytes[0..0]
+    }
+}
+
 // The bytes before the first mark, and those after it; all and none where there is no mark.
 pub fn cut(bytes: &[u8], mark: u8) -> (&[u8], &[u8])
     ensures front { λ r. ⌜ now (r .0) ≡ before mark (now (bytes .entry)) ⌝ }
     ensures back { λ r. ⌜ now (r .1) ≡ after mark (now (bytes .entry)) ⌝ }
 {
     let n = count_while(bytes, &Other(mark));
-    let (front, back) = bytes.split_at(n);
-    if back.is_empty() {
-        (front, back)
-    } else {
-        (front, &back[1..])
-    }
+    let (front, _) = bytes.split_at(n);
+    (front, past(bytes, n))
 }
 
 // The first word, empty where there is none, and the bytes after it.

@@ -16,7 +16,7 @@ returns-then-byte-lt48 c =
     let bs = c .args .word .now in
     let i = c .loop-byte .byte-index in
     let no-digit : digit (getD bs i 0) ≡ false =
-      elim (c .then-byte-lt48 .came) [ then-byte-lt48·by·then-byte-lt48 w ↦ let t = w .if-byte-lt48 .taken in grind (arith, tells) | then-byte-lt48·by·else-byte-lt48·then-byte-gt57 w ↦ let t = w .if-byte-gt57 .taken in grind (arith, tells) ] in
+    elim (c .then-byte-lt48 .came) [ then-byte-lt48·by·then-byte-lt48 w ↦ let t = w .if-byte-lt48 .taken in grind (arith, tells) | then-byte-lt48·by·else-byte-lt48·then-byte-gt57 w ↦ let t = w .if-byte-gt57 .taken in grind (arith, tells) ] in
     let off = c .loop-byte .inv .1 ∙ digits-off bs i (c .loop-byte-test .taken) no-digit in
     sym (decimal-of 18446744073709551615 bs (sym (c .is-empty .ensures) ∙ c .if-is-empty .left) ∙ ap (λ b. cond b (Some (min (decimal-after 0 bs) 18446744073709551615)) None) off)
 
