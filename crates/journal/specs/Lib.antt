@@ -2,3 +2,4 @@ pub mod Folders
 pub mod Replay
 pub mod Rows
 pub mod Searches
+pub mod Movers

@@ -1,0 +1,5 @@
+pub mod Ahead
+pub mod Racks
+pub mod OneMore
+pub mod Journals
+pub mod Counts
