@@ -82,6 +82,10 @@ module _ {P : Type 0} where
           (got .0, omega (arith, r .0, got .1), record { before = d ∷ c .before; after = c .after; lacking-is = ap (λ l. d ∷ l) (c .lacking-is); having-is = ap (λ l. d ∷ l) (c .having-is);
             older = (omega (arith, got .0, got .1), c .older); rising-before = (r .0, c .rising-before); rising-after = c .rising-after })
 
+  pub older-later : (n : ℕ) (es : List (Entry P)) → Older n es → Older (suc n) es
+  older-later n [] o = tt
+  older-later n (e ∷ es) o = (omega (arith, o .0), older-later n es (o .1))
+
   pub rising-append : (n s : ℕ) (xs ys : List (Entry P)) → Rising n xs → Older s xs → n ≤ s → Rising s ys → Rising n (xs ++ ys)
   rising-append n s [] ys r o le k = rising-earlier n s ys le k
   rising-append n s (a ∷ xs) ys r o le k = (r .0, rising-append (suc (stamp-of a)) s xs ys (r .1) (o .1) (o .0) k)

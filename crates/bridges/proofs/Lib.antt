@@ -3,3 +3,4 @@ pub mod Racks
 pub mod OneMore
 pub mod Journals
 pub mod Counts
+pub mod Movers
