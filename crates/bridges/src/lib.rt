@@ -1,1 +1,17 @@
 // The theory of the rack book: who moves at a correction, and why the bridges find it.
+// Each function here has a theorem for its contract, which holds of every lawful order; none computes anything.
+ghost use Rattle.bridges.specs.Movers.{Movers-law};
+ghost use Rattle.bridges.specs.Racks.{One-folder-more};
+use orders::priority::Priority;
+
+// One folder more on a rack at the beginning is one folder more at the end.
+pub fn one_folder_more<P: Priority>()
+    ensures { λ _. ⌜ One-folder-more (P·Priority .notBehind) ⌝ }
+{
+}
+
+// An arrival moves the hindmost of its folder and those fetched after it, a taking the hindmost fetched from it on.
+pub fn hindmost_moves<P: Priority>()
+    ensures { λ _. ⌜ Movers-law (P·Priority .notBehind) ⌝ }
+{
+}
