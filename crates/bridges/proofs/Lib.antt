@@ -4,3 +4,4 @@ pub mod OneMore
 pub mod Journals
 pub mod Counts
 pub mod Movers
+pub mod Members
