@@ -15,14 +15,10 @@ use Rattle.journal.specs.Replay.{replay, waiting, fetched}
 use Rattle.journal.specs.Movers.{without}
 use Rattle.bridges.specs.Racks.{Rising, gone}
 use Rattle.bridges.specs.Movers.{One-apart}
+use Rattle.bridges.specs.Counting.{count}
 use Rattle.bridges.proofs.Ahead.{Lawful}
 use Rattle.bridges.proofs.Racks.{rising-earlier}
 use Rattle.bridges.proofs.Journals.{order-replay}
-
--- how many of these folders pass a test
-abbrev pub count : {P : Type 0} → (Folder P → Bool) → List (Folder P) → ℕ
-count t [] = 0
-count t (f ∷ fs) = cond (t f) (suc (count t fs)) (count t fs)
 
 -- the folders of a journal's arrivals
 abbrev pub arrivals : {P : Type 0} → List (Entry P) → List (Folder P)

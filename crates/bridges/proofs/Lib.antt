@@ -5,3 +5,5 @@ pub mod Journals
 pub mod Counts
 pub mod Movers
 pub mod Members
+pub mod Places
+pub mod Sums

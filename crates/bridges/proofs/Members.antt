@@ -14,7 +14,8 @@ use Rattle.journal.specs.declared.entry.Entry.the-variants.{Arrival, Taking}
 use Rattle.journal.specs.Folders.{ahead, placed, has-stamp, in-order, ahead-of-all}
 use Rattle.journal.specs.Replay.{replay, waiting, fetched}
 use Rattle.bridges.specs.Racks.{Rising, gone}
-use Rattle.bridges.proofs.Counts.{count, arrivals, stamped, stamp-old, once, counted-has-stamp, has-stamp-counted}
+use Rattle.bridges.specs.Counting.{count}
+use Rattle.bridges.proofs.Counts.{arrivals, stamped, stamp-old, once, counted-has-stamp, has-stamp-counted}
 
 -- f is one of these
 abbrev pub Among : {A : Type 0} → A → List A → Type 0
