@@ -7,3 +7,4 @@ pub mod Movers
 pub mod Members
 pub mod Places
 pub mod Sums
+pub mod Bridges

@@ -1,5 +1,6 @@
 // The theory of the rack book: who moves at a correction, and why the bridges find it.
 // Each function here has a theorem for its contract, which holds of every lawful order; none computes anything.
+ghost use Rattle.bridges.specs.Counting.{Counting};
 ghost use Rattle.bridges.specs.Movers.{Movers-law};
 ghost use Rattle.bridges.specs.Racks.{One-folder-more};
 use orders::priority::Priority;
@@ -13,5 +14,11 @@ pub fn one_folder_more<P: Priority>()
 // An arrival moves the hindmost of its folder and those fetched after it, a taking the hindmost fetched from it on.
 pub fn hindmost_moves<P: Priority>()
     ensures { λ _. ⌜ Movers-law (P·Priority .notBehind) ⌝ }
+{
+}
+
+// The stock is the number of folders on the rack, the balance the number of those that will still be fetched.
+pub fn sums_count_folders<P: Priority>()
+    ensures { λ _. ⌜ Counting (P·Priority .notBehind) ⌝ }
 {
 }
