@@ -8,3 +8,4 @@ pub mod Members
 pub mod Places
 pub mod Sums
 pub mod Bridges
+pub mod Stocks

@@ -29,7 +29,7 @@ use Rattle.bridges.proofs.Members.{Among, fetched-not-waiting}
 use Rattle.bridges.proofs.Places.{served-at, fetched-earlier}
 
 module _ {P : Type 0} (nb : P → P → Bool) where
-  length-placed : (f : Folder P) (fs : List (Folder P)) → length (placed nb f fs) ≡ suc (length fs)
+  pub length-placed : (f : Folder P) (fs : List (Folder P)) → length (placed nb f fs) ≡ suc (length fs)
   length-placed f [] = refl
   length-placed f (g ∷ gs) = let ih = length-placed f gs in grind arith
 

@@ -1,3 +1,4 @@
 pub mod Racks
 pub mod Movers
 pub mod Counting
+pub mod Soundness
