@@ -9,3 +9,4 @@ pub mod Places
 pub mod Sums
 pub mod Bridges
 pub mod Stocks
+pub mod Soundness

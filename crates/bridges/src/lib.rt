@@ -3,6 +3,7 @@
 ghost use Rattle.bridges.specs.Counting.{Counting};
 ghost use Rattle.bridges.specs.Movers.{Movers-law};
 ghost use Rattle.bridges.specs.Racks.{One-folder-more};
+ghost use Rattle.bridges.specs.Soundness.{Soundness-by-stock};
 use orders::priority::Priority;
 
 // One folder more on a rack at the beginning is one folder more at the end.
@@ -20,5 +21,11 @@ pub fn hindmost_moves<P: Priority>()
 // The stock is the number of folders on the rack, the balance the number of those that will still be fetched.
 pub fn sums_count_folders<P: Priority>()
     ensures { λ _. ⌜ Counting (P·Priority .notBehind) ⌝ }
+{
+}
+
+// Whether a corrected journal is sound, and which taking is the first to find no folder, is read off the first low stock.
+pub fn stock_decides_soundness<P: Priority>()
+    ensures { λ _. ⌜ Soundness-by-stock (P·Priority .notBehind) ⌝ }
 {
 }
