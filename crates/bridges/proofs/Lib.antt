@@ -10,3 +10,5 @@ pub mod Sums
 pub mod Bridges
 pub mod Stocks
 pub mod Soundness
+pub mod Extremes
+pub mod Found
