@@ -12,3 +12,5 @@ pub mod Stocks
 pub mod Soundness
 pub mod Extremes
 pub mod Found
+pub mod LastBridge
+pub mod FirstBridge
