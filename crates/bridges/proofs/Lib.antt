@@ -14,3 +14,4 @@ pub mod Extremes
 pub mod Found
 pub mod LastBridge
 pub mod FirstBridge
+pub mod Marked

@@ -42,7 +42,7 @@ unserved (suc n) (Taking s ∷ es) = unserved n es
 
 module _ {P : Type 0} where
   -- how many entries have a lesser stamp: those before, of a journal in two parts
-  earlier-none : (s : ℕ) (rs : List (Row P)) → Rising s (entries rs) → earlier rs s ≡ 0
+  pub earlier-none : (s : ℕ) (rs : List (Row P)) → Rising s (entries rs) → earlier rs s ≡ 0
   earlier-none s [] r = refl
   earlier-none s (x ∷ rs) r = rw (le-ltb (stamp-of (entry-of x)) s (r .0)) (earlier-none s rs (rising-earlier s _ (entries rs) (omega (arith, r .0)) (r .1)))
 

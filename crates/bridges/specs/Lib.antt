@@ -2,3 +2,4 @@ pub mod Racks
 pub mod Movers
 pub mod Counting
 pub mod Soundness
+pub mod Rules
