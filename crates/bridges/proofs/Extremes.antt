@@ -106,11 +106,13 @@ module _ {P : Type 0} (nb : P → P → Bool) (L : Lawful nb) where
   pub first-same : (m n : Folder P) (fs gs : List (Folder P)) → Apart fs → First nb m fs → First nb n gs → ((g : Folder P) → Among g gs → Among g fs) → ((f : Folder P) → Among f fs → Among f gs) → m ≡ n
   first-same m n fs gs one a b sub sup = one m n (a .0) (sub n (b .0)) (neither-ahead m n (b .1 m (sup m (a .0))) (a .1 n (sub n (b .0))))
 
-  -- a list with somebody in it has a hindmost and a foremost
-  pub hindmost-some : (f : Folder P) (fs : List (Folder P)) → Among f fs → (m : Folder P) × (hindmost nb fs ≡ Some m) × Last nb m fs
-  hindmost-some f [] k = elim k [ ]
-  hindmost-some f (d ∷ ds) k = (hindmost-of nb d ds, refl, hindmost-last d ds)
+  pub hindmost-alike : (fs gs : List (Folder P)) → Apart fs → ((g : Folder P) → Among g gs → Among g fs)
+      → ((f : Folder P) → Among f fs → (g : Folder P) × Among g gs × ((f ≡ g) ⊎ (ahead nb f g ≡ true))) → hindmost nb fs ≡ hindmost nb gs
+  hindmost-alike [] [] one sub dom = refl
+  hindmost-alike (f ∷ fs) [] one sub dom = absurd (dom f (inl refl) .1)
+  hindmost-alike [] (g ∷ gs) one sub dom = absurd (sub g (inl refl))
+  hindmost-alike (f ∷ fs) (g ∷ gs) one sub dom = ap Some (last-same (hindmost-of nb f fs) (hindmost-of nb g gs) (f ∷ fs) (g ∷ gs) one (hindmost-last f fs) (hindmost-last g gs) sub dom)
 
-  pub foremost-some : (f : Folder P) (fs : List (Folder P)) → Among f fs → (m : Folder P) × (foremost nb fs ≡ Some m) × First nb m fs
-  foremost-some f [] k = elim k [ ]
-  foremost-some f (d ∷ ds) k = (foremost-of nb d ds, refl, foremost-first d ds)
+  pub foremost-alike : (fs : List (Folder P)) (g : Folder P) (gs : List (Folder P)) → Apart fs → First nb g (g ∷ gs) → ((h : Folder P) → Among h (g ∷ gs) → Among h fs) → ((f : Folder P) → Among f fs → Among f (g ∷ gs)) → foremost nb fs ≡ Some g
+  foremost-alike [] g gs one a sub sup = absurd (sub g (inl refl))
+  foremost-alike (f ∷ fs) g gs one a sub sup = ap Some (first-same (foremost-of nb f fs) g (f ∷ fs) (g ∷ gs) one (foremost-first f fs) a sub sup)

@@ -15,3 +15,4 @@ pub mod Found
 pub mod LastBridge
 pub mod FirstBridge
 pub mod Marked
+pub mod Rules
