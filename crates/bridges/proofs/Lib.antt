@@ -16,3 +16,4 @@ pub mod LastBridge
 pub mod FirstBridge
 pub mod Marked
 pub mod Rules
+pub mod FindMovers

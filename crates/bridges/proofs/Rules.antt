@@ -49,12 +49,12 @@ module _ {P : Type 0} (nb : P → P → Bool) (L : Lawful nb) where
       let e : cond (ahead nb (cond (ahead nb f z) z f) w) w (cond (ahead nb f z) z f) ≡ cond (ahead nb f (cond (ahead nb z w) w z)) (cond (ahead nb z w) w z) f = grind arith in
       ap (λ x. hindmost-of nb x ws) e ∙ hinder-hindmost f (cond (ahead nb z w) w z) ws
 
-  hinder-of : (f : Folder P) (fs : List (Folder P)) → hinder nb f (hindmost nb fs) ≡ hindmost-of nb f fs
+  pub hinder-of : (f : Folder P) (fs : List (Folder P)) → hinder nb f (hindmost nb fs) ≡ hindmost-of nb f fs
   hinder-of f [] = refl
   hinder-of f (z ∷ zs) = sym (hinder-hindmost f z zs)
 
   module _ (es : List (Entry P)) (r : Rising 0 es) (v : Served nb [] es) where
-    abbrev rows : List (Row P)
+    abbrev pub rows : List (Row P)
     rows = marked nb es
 
     rows-length : length rows ≡ length es

@@ -3,6 +3,7 @@
 ghost use Rattle.bridges.specs.Counting.{Counting};
 ghost use Rattle.bridges.specs.Movers.{Movers-law};
 ghost use Rattle.bridges.specs.Racks.{One-folder-more};
+ghost use Rattle.bridges.specs.Rules.{Bridges-find-movers};
 ghost use Rattle.bridges.specs.Soundness.{Soundness-by-stock};
 use orders::priority::Priority;
 
@@ -27,5 +28,11 @@ pub fn sums_count_folders<P: Priority>()
 // Whether a corrected journal is sound, and which taking is the first to find no folder, is read off the first low stock.
 pub fn stock_decides_soundness<P: Priority>()
     ensures { λ _. ⌜ Soundness-by-stock (P·Priority .notBehind) ⌝ }
+{
+}
+
+// The five bridge rules, on marked rows, find the mover that the replay defines.
+pub fn bridges_find_movers<P: Priority>()
+    ensures { λ _. ⌜ Bridges-find-movers (P·Priority .notBehind) ⌝ }
 {
 }
