@@ -17,3 +17,4 @@ pub mod FirstBridge
 pub mod Marked
 pub mod Rules
 pub mod FindMovers
+pub mod Marks

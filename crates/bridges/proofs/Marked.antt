@@ -85,7 +85,7 @@ module _ {P : Type 0} where
   marked-fetched ws (Taking s ∷ es) f m = marked-fetched ws es f m
 
   -- an arrival later than n is of a stamp not below n
-  arrival-later : (n : ℕ) (es : List (Entry P)) (f : Folder P) → Rising n es → Among f (arrivals es) → n ≤ f .stamp
+  pub arrival-later : (n : ℕ) (es : List (Entry P)) (f : Folder P) → Rising n es → Among f (arrivals es) → n ≤ f .stamp
   arrival-later n [] f r m = elim m [ ]
   arrival-later n (Arrival g ∷ es) f r (inl q) = omega (arith, r .0, ap (λ x. x .stamp) q)
   arrival-later n (Arrival g ∷ es) f r (inr m) = omega (arith, r .0, arrival-later (suc (g .stamp)) es f (r .1) m)

@@ -3,3 +3,4 @@ pub mod Movers
 pub mod Counting
 pub mod Soundness
 pub mod Rules
+pub mod Marks

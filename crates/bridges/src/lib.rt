@@ -1,6 +1,7 @@
 // The theory of the rack book: who moves at a correction, and why the bridges find it.
 // Each function here has a theorem for its contract, which holds of every lawful order; none computes anything.
 ghost use Rattle.bridges.specs.Counting.{Counting};
+ghost use Rattle.bridges.specs.Marks.{Marks-kept};
 ghost use Rattle.bridges.specs.Movers.{Movers-law};
 ghost use Rattle.bridges.specs.Racks.{One-folder-more};
 ghost use Rattle.bridges.specs.Rules.{Bridges-find-movers};
@@ -34,5 +35,11 @@ pub fn stock_decides_soundness<P: Priority>()
 // The five bridge rules, on marked rows, find the mover that the replay defines.
 pub fn bridges_find_movers<P: Priority>()
     ensures { λ _. ⌜ Bridges-find-movers (P·Priority .notBehind) ⌝ }
+{
+}
+
+// After a rule's change of rows the marks agree with the replay of the corrected journal.
+pub fn marks_stay_right<P: Priority>()
+    ensures { λ _. ⌜ Marks-kept (P·Priority .notBehind) ⌝ }
 {
 }

@@ -3,3 +3,4 @@ pub mod Replay
 pub mod Rows
 pub mod Searches
 pub mod Movers
+pub mod Changes
