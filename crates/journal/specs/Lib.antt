@@ -4,3 +4,7 @@ pub mod Rows
 pub mod Searches
 pub mod Movers
 pub mod Changes
+pub mod Refusals
+pub mod Racks
+pub mod ShortJournals
+pub mod Entering

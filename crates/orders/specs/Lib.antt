@@ -1,4 +1,5 @@
 pub mod Order
+pub mod Refusal
+pub mod Bytes
 pub mod Weight
 pub mod Card
-pub mod Bytes

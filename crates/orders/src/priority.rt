@@ -8,7 +8,7 @@ pub trait Priority: Copy {
     // Is the first priority not behind the second?
     ghost notBehind: { Self → Self → Bool };
 
-    // The priority that a held value means, held as itself: a held number above its bound means the bound.
+    // The same priority, held as what it means: a held number above its bound means the bound.
     ghost canonical: { Self → Self };
 
     law total: { (a b : Self) → notBehind a b ≡ false → notBehind b a ≡ true };
@@ -24,4 +24,10 @@ pub trait Priority: Copy {
 
     fn canonical(&self) -> Self
         ensures { λ r. ⌜ r ≡ canonical (now (self .entry)) ⌝ };
+}
+
+// Why a priority is not made or not read.
+#[derive(Clone, Copy, PartialEq, Eq, Debug)]
+pub enum PriorityFault {
+    OutOfBounds,
 }

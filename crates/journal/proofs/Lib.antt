@@ -1,0 +1,4 @@
+pub mod Ahead
+pub mod ByReplay
+pub mod Placed
+pub mod RackRules

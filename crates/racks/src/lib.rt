@@ -1,0 +1,3 @@
+// Makes of rack.
+pub mod flat;
+mod front;
