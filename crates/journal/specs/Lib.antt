@@ -8,3 +8,4 @@ pub mod Refusals
 pub mod Racks
 pub mod ShortJournals
 pub mod Entering
+pub mod Calls
