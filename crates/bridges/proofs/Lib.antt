@@ -18,3 +18,4 @@ pub mod Marked
 pub mod Rules
 pub mod FindMovers
 pub mod Marks
+pub mod Calls

@@ -198,10 +198,10 @@ module _ {P : Type 0} (nb : P → P → Bool) where
       let e = entries-of-rows more es in
       mark-place Fetched 0 (map (row-of more) es) m (rw e r) (rw e k) ∙ ap (λ l. map (mark-if Fetched (m .stamp)) (map (row-of l) es)) q ∙ sym (rows-left m ws es h)
 
-  rising-lacking : (a : Entry P) (lacking having : List (Entry P)) → Corrected 0 a lacking having → Rising 0 lacking
+  pub rising-lacking : (a : Entry P) (lacking having : List (Entry P)) → Corrected 0 a lacking having → Rising 0 lacking
   rising-lacking a lacking having c = rw (c .lacking-is) (rising-append 0 (stamp-of a) (c .before) (c .after) (c .rising-before) (c .older) (omega arith) (rising-earlier (stamp-of a) (suc (stamp-of a)) (c .after) (omega arith) (c .rising-after)))
 
-  rising-having : (a : Entry P) (lacking having : List (Entry P)) → Corrected 0 a lacking having → Rising 0 having
+  pub rising-having : (a : Entry P) (lacking having : List (Entry P)) → Corrected 0 a lacking having → Rising 0 having
   rising-having a lacking having c = rw (c .having-is) (rising-append 0 (stamp-of a) (c .before) (a ∷ c .after) (c .rising-before) (c .older) (omega arith) (omega arith, c .rising-after))
 
   waiting-arrived : (es : List (Entry P)) (f : Folder P) → Among f (waiting nb es) → Among f (arrivals es)

@@ -4,3 +4,4 @@ pub mod Counting
 pub mod Soundness
 pub mod Rules
 pub mod Marks
+pub mod Law

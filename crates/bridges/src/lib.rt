@@ -1,6 +1,7 @@
 // The theory of the rack book: who moves at a correction, and why the bridges find it.
 // Each function here has a theorem for its contract, which holds of every lawful order; none computes anything.
 ghost use Rattle.bridges.specs.Counting.{Counting};
+ghost use Rattle.bridges.specs.Law.{Law-of-calls};
 ghost use Rattle.bridges.specs.Marks.{Marks-kept};
 ghost use Rattle.bridges.specs.Movers.{Movers-law};
 ghost use Rattle.bridges.specs.Racks.{One-folder-more};
@@ -41,5 +42,12 @@ pub fn bridges_find_movers<P: Priority>()
 // After a rule's change of rows the marks agree with the replay of the corrected journal.
 pub fn marks_stay_right<P: Priority>()
     ensures { λ _. ⌜ Marks-kept (P·Priority .notBehind) ⌝ }
+{
+}
+
+// Over any list of calls, by the defined replies: only an accepted correction changes the waiting list, by the one folder
+// that its reply names; equal books reply alike; each folder joined as often as it left, and once more if it waits now.
+pub fn law_of_calls<P: Priority>()
+    ensures { λ _. ⌜ Law-of-calls (P·Priority .notBehind) (P·Priority .canonical) ⌝ }
 {
 }
