@@ -19,3 +19,4 @@ pub mod Rules
 pub mod FindMovers
 pub mod Marks
 pub mod Calls
+pub mod PlaceForms

@@ -151,7 +151,7 @@ module _ {P : Type 0} (nb : P → P → Bool) (L : Lawful nb) where
                 (λ g m. later-arrived b safe g (later-sooner nb L es r d b p sum le g m))
                 (λ f m. sooner-later nb L es r d b p sum le (λ i x y. high-doomed nb es i r v (got .2 .none-after i x y)) f (arrived-later b f m))
 
-    low-at-end : low (balance rows) (length es) ≡ true
+    pub low-at-end : low (balance rows) (length es) ≡ true
     low-at-end =
         let none : count (missing nb (waiting nb es)) (rack-at nb es (length es)) ≡ 0
               = none-counted (missing nb (waiting nb es)) (rack-at nb es (length es)) (λ f m. not-from-true _ (among-has-stamp f (waiting nb es) (rw (take-length es) at m))) in

@@ -5,3 +5,4 @@ pub mod Soundness
 pub mod Rules
 pub mod Marks
 pub mod Law
+pub mod Places

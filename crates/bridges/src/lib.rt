@@ -4,6 +4,7 @@ ghost use Rattle.bridges.specs.Counting.{Counting};
 ghost use Rattle.bridges.specs.Law.{Law-of-calls};
 ghost use Rattle.bridges.specs.Marks.{Marks-kept};
 ghost use Rattle.bridges.specs.Movers.{Movers-law};
+ghost use Rattle.bridges.specs.Places.{Places-told};
 ghost use Rattle.bridges.specs.Racks.{One-folder-more};
 ghost use Rattle.bridges.specs.Rules.{Bridges-find-movers};
 ghost use Rattle.bridges.specs.Soundness.{Soundness-by-stock};
@@ -49,5 +50,11 @@ pub fn marks_stay_right<P: Priority>()
 // that its reply names; equal books reply alike; each folder joined as often as it left, and once more if it waits now.
 pub fn law_of_calls<P: Priority>()
     ensures { λ _. ⌜ Law-of-calls (P·Priority .notBehind) (P·Priority .canonical) ⌝ }
+{
+}
+
+// What the places found on rows stand for, and that waiting at k is the folder with exactly k waiting folders ahead of it.
+pub fn places_tell<P: Priority>()
+    ensures { λ _. ⌜ Places-told (P·Priority .notBehind) ⌝ }
 {
 }
