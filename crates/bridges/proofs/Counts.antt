@@ -4,17 +4,20 @@ use mathlib.Core.Bool.{Bool, true, false, cond, not, _||_}
 use mathlib.Core.List.{List, [], _∷_}
 use Prim.Native.Nat.{ℕ, suc, _+_, _≤_, _<_}
 use native.Mathlib.Omega.{arith}
-use lib.Dec.{eqb}
-use Rattle.std.proofs.shelf.Tests.{ne-eqb, eqb-true, eq-eqb, or-parts}
+use lib.Dec.{eqb, ltb}
+use lib.ListN.{length}
+use Rattle.std.proofs.shelf.Tests.{true≢false, ne-eqb, eqb-true, eq-eqb, lt-ltb, or-parts, or-from, or-left, or-right, and-right, cond-true, cond-false}
 use Rattle.std.proofs.shelf.Ways.{tells}
 use Rattle.journal.specs.declared.folder.Folder.{Folder}
 use Rattle.journal.specs.declared.entry.Entry.{Entry}
 use Rattle.journal.specs.declared.entry.Entry.the-variants.{Arrival, Taking}
 use Rattle.journal.specs.Folders.{ahead, placed, has-stamp}
 use Rattle.journal.specs.Replay.{replay, waiting, fetched}
-use Rattle.journal.specs.Movers.{without}
+use Rattle.orders.specs.Order.{tie}
+use Rattle.orders.specs.Refusal.{Told, told}
+use Rattle.journal.specs.Racks.{same-key, holds, taken-out}
 use Rattle.bridges.specs.Racks.{Rising, gone}
-use Rattle.bridges.specs.Movers.{One-apart}
+use Rattle.bridges.specs.Movers.{One-apart, Rack-follows}
 use Rattle.bridges.specs.Counting.{count}
 use Rattle.bridges.proofs.Ahead.{Lawful}
 use Rattle.bridges.proofs.Racks.{rising-earlier}
@@ -32,7 +35,7 @@ stamped s f = eqb s (f .stamp)
 
 module _ {P : Type 0} where
   pub has-stamp-counted : (s : ℕ) (fs : List (Folder P)) → has-stamp s fs ≡ true → 1 ≤ count (stamped s) fs
-  has-stamp-counted s [] h = absurd (let z : _≡_ {A = Bool} true false = cc in Rattle.std.proofs.shelf.Tests.true≢false z)
+  has-stamp-counted s [] h = absurd (true≢false (sym h))
   has-stamp-counted s (f ∷ fs) h = go (eqb s (f .stamp)) h (has-stamp-counted s fs)
     where
       go : (b : Bool) → (b || has-stamp s fs) ≡ true → (has-stamp s fs ≡ true → 1 ≤ count (stamped s) fs) → 1 ≤ cond b (suc (count (stamped s) fs)) (count (stamped s) fs)
@@ -78,16 +81,42 @@ module _ {P : Type 0} (nb : P → P → Bool) where
   pub once : (s n : ℕ) (es : List (Entry P)) → Rising n es → count (stamped s) (waiting nb es) + count (stamped s) (fetched nb es) ≤ 1
   once s n es r = omega (arith, conserved (stamped s) es [], stamp-once s n es r)
 
-  pub without-placed : (m : Folder P) (fs : List (Folder P)) → has-stamp (m .stamp) fs ≡ false → without (m .stamp) (placed nb m fs) ≡ fs
-  without-placed m [] h = rw (eq-eqb (m .stamp) (m .stamp) refl)
-  without-placed m (g ∷ gs) h =
-      let parts = or-parts (eqb (m .stamp) (g .stamp)) (has-stamp (m .stamp) gs) h in
-      let ih = without-placed m gs (parts .1) in
-      let here = eq-eqb (m .stamp) (m .stamp) refl in
-      let apart : eqb (g .stamp) (m .stamp) ≡ false = grind (arith, tells) in
-      grind arith
-
 module _ {P : Type 0} (nb : P → P → Bool) (L : Lawful nb) where
+  -- a folder is of its own priority and stamp
+  own-key : (m : Folder P) → same-key nb (m .priority) (m .stamp) m ≡ true
+  own-key m = let t = L .total (m .priority) (m .priority) in let e = eq-eqb (m .stamp) (m .stamp) refl in grind arith
+
+  -- a list without a folder's stamp does not hold it, and with it in place does
+  holds-none : (m : Folder P) (fs : List (Folder P)) → has-stamp (m .stamp) fs ≡ false → holds nb (m .priority) (m .stamp) fs ≡ false
+  holds-none m [] h = refl
+  holds-none m (g ∷ gs) h =
+      let parts = or-parts (eqb (m .stamp) (g .stamp)) (has-stamp (m .stamp) gs) h in
+      or-from _ _ (and-right _ _ (parts .0)) (holds-none m gs (parts .1))
+
+  holds-placed : (m : Folder P) (fs : List (Folder P)) → holds nb (m .priority) (m .stamp) (placed nb m fs) ≡ true
+  holds-placed m [] = or-left _ _ (own-key m)
+  holds-placed m (g ∷ gs) = go (ahead nb m g) (holds-placed m gs)
+    where
+      go : (b : Bool) → holds nb (m .priority) (m .stamp) (placed nb m gs) ≡ true → holds nb (m .priority) (m .stamp) (cond b (m ∷ g ∷ gs) (g ∷ placed nb m gs)) ≡ true
+      go true ih = or-left _ _ (own-key m)
+      go false ih = or-right _ _ ih
+
+  taken-out-placed : (m : Folder P) (fs : List (Folder P)) → has-stamp (m .stamp) fs ≡ false → taken-out nb (m .priority) (m .stamp) (placed nb m fs) ≡ fs
+  taken-out-placed m [] h = cond-true _ _ _ (own-key m)
+  taken-out-placed m (g ∷ gs) h =
+      let parts = or-parts (eqb (m .stamp) (g .stamp)) (has-stamp (m .stamp) gs) h in
+      go (ahead nb m g) (and-right (tie nb (m .priority) (g .priority)) _ (parts .0)) (taken-out-placed m gs (parts .1))
+    where
+      go : (b : Bool) → same-key nb (m .priority) (m .stamp) g ≡ false → taken-out nb (m .priority) (m .stamp) (placed nb m gs) ≡ gs
+          → taken-out nb (m .priority) (m .stamp) (cond b (m ∷ g ∷ gs) (g ∷ placed nb m gs)) ≡ g ∷ gs
+      go true k ih = cond-true _ _ _ (own-key m)
+      go false k ih = cond-false (same-key nb (m .priority) (m .stamp) g) _ _ k ∙ ap (λ l. g ∷ l) ih
+
+  pub rack-follows : Rack-follows nb
+  rack-follows m fewer more a =
+      (cond-true _ _ _ (ap (holds nb (m .priority) (m .stamp)) (a .joined) ∙ holds-placed m fewer) ∙ ap told (sym (a .left)),
+       λ capacity lt. cond-false (holds nb (m .priority) (m .stamp) fewer) _ _ (holds-none m fewer (a .new)) ∙ cond-true (ltb (length fewer) capacity) _ _ (lt-ltb _ _ lt) ∙ ap told (sym (a .joined)))
+
   -- a waiting list with one folder set in place differs by that one
   pub one-apart : (m : Folder P) (fewer : List (Folder P)) (es : List (Entry P)) → Rising 0 es → waiting nb es ≡ placed nb m fewer → One-apart nb m fewer (waiting nb es)
   one-apart m fewer es r e =
@@ -96,4 +125,4 @@ module _ {P : Type 0} (nb : P → P → Bool) (L : Lawful nb) where
       let here : eqb (m .stamp) (m .stamp) ≡ true = eq-eqb (m .stamp) (m .stamp) refl in
       let none : count (stamped (m .stamp)) fewer ≡ 0 = grind arith in
       let new : has-stamp (m .stamp) fewer ≡ false = counted-has-stamp (m .stamp) fewer none in
-      record { joined = e; left = sym (ap (without (m .stamp)) e ∙ without-placed nb m fewer new); new = new; order = order-replay nb L 0 es [] tt r refl }
+      record { joined = e; left = sym (ap (taken-out nb (m .priority) (m .stamp)) e ∙ taken-out-placed m fewer new); new = new; order = order-replay nb L 0 es [] tt r refl }

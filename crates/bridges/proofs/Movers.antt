@@ -18,7 +18,7 @@ use Rattle.bridges.specs.Movers.{One-apart, Arrival-moves, Taking-moves, Mover
 use Rattle.bridges.proofs.Ahead.{Lawful}
 use Rattle.bridges.proofs.Racks.{rising-earlier, placed-front, stands-taking}
 use Rattle.bridges.proofs.OneMore.{one-more, never-served}
-use Rattle.bridges.proofs.Journals.{Older, Corrected, entering, striking, rising-journal, rising-append, older-later, replay-append, served-parts, served-sound, fetches-from-append, stands-after}
+use Rattle.bridges.proofs.Journals.{Older, Corrected, entering, striking, rising-journal, rising-append, older-later, replay-append, served-parts, served-sound, fetches-from-append, stands-after, order-replay}
 use Rattle.bridges.proofs.Counts.{one-apart}
 
 module _ {P : Type 0} (nb : P → P → Bool) (L : Lawful nb) where
@@ -61,6 +61,7 @@ module _ {P : Type 0} (nb : P → P → Bool) (L : Lawful nb) where
 
   pub movers-law : Movers-law nb
   movers-law = record {
+      waiting-order = λ es b. order-replay nb L 0 es [] tt (rising-journal es b) refl;
       arrival-entered = λ es f b d. arrival-corrected f es (entered (Arrival f) es) (entering 0 (Arrival f) es (omega arith) (rising-journal es b) d);
       arrival-struck = λ es s f b h. arrival-corrected f (struck s es) es (striking 0 s (Arrival f) es (rising-journal es b) h .2);
       taking-entered = λ es s b d. taking-corrected s es (entered (Taking s) es) (entering 0 (Taking s) es (omega arith) (rising-journal es b) d);

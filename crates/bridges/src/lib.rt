@@ -3,7 +3,7 @@
 ghost use Rattle.bridges.specs.Counting.{Counting};
 ghost use Rattle.bridges.specs.Law.{Law-of-calls};
 ghost use Rattle.bridges.specs.Marks.{Marks-kept};
-ghost use Rattle.bridges.specs.Movers.{Movers-law};
+ghost use Rattle.bridges.specs.Movers.{Movers-law, Rack-follows};
 ghost use Rattle.bridges.specs.Places.{Places-told};
 ghost use Rattle.bridges.specs.Racks.{One-folder-more};
 ghost use Rattle.bridges.specs.Rules.{Bridges-find-movers};
@@ -19,6 +19,12 @@ pub fn one_folder_more<P: Priority>()
 // An arrival moves the hindmost of its folder and those fetched after it, a taking the hindmost fetched from it on.
 pub fn hindmost_moves<P: Priority>()
     ensures { λ _. ⌜ Movers-law (P·Priority .notBehind) ⌝ }
+{
+}
+
+// A rack with the waiting list before a correction comes to the one after it by putting or removing the mover.
+pub fn rack_follows<P: Priority>()
+    ensures { λ _. ⌜ Rack-follows (P·Priority .notBehind) ⌝ }
 {
 }
 

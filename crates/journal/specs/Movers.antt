@@ -15,11 +15,6 @@ abbrev pub entry-at : {P : Type 0} → ℕ → List (Entry P) → Option (Entry 
 entry-at s [] = None
 entry-at s (e ∷ es) = cond (eqb (stamp-of e) s) (Some e) (entry-at s es)
 
--- these folders without the one of a stamp
-abbrev pub without : {P : Type 0} → ℕ → List (Folder P) → List (Folder P)
-without s [] = []
-without s (f ∷ fs) = cond (eqb (f .stamp) s) fs (f ∷ without s fs)
-
 module _ {P : Type 0} (notBehind : P → P → Bool) where
   -- the folders fetched at a stamp or later
   abbrev pub fetched-from : ℕ → List (Entry P) → List (Folder P)
