@@ -42,8 +42,19 @@ module _ {P : Type 0} where
       go false k ih = ih k
 
   -- a rule's reply is what it makes of the journal, with a reason for it, or a refusal
-  abbrev Ruled : Told (List (Entry P)) → List (Entry P) → Type 0 → Type 0
+  abbrev pub Ruled : Told (List (Entry P)) → List (Entry P) → Type 0 → Type 0
   Ruled o es reason = ((o ≡ told es) × reason) ⊎ ((n : ℕ) × (vs : List ℕ) × (o ≡ refused n vs))
+
+  pub enter-ruled : (capacity : ℕ) (es : List (Entry P)) (e : Entry P) → Ruled (enter-rule capacity es e) (entered e es) (dated (stamp-of e) es ≡ false)
+  enter-ruled capacity es e = go (stamp-in-range (stamp-of e)) (number-in-range e) (dated (stamp-of e) es) refl (ltb (length es) capacity)
+    where
+      go : (a b c : Bool) → dated (stamp-of e) es ≡ c → (d : Bool)
+          → Ruled (cond a (cond b (cond c (refused 4 []) (cond d (told (entered e es)) (refused 6 []))) (refused 2 [])) (refused 1 [])) (entered e es) (dated (stamp-of e) es ≡ false)
+      go false b c q d = inr (1, [], refl)
+      go true false c q d = inr (2, [], refl)
+      go true true true q d = inr (4, [], refl)
+      go true true false q false = inr (6, [], refl)
+      go true true false q true = inl (refl, q)
 
 module _ {P : Type 0} (nb : P → P → Bool) (canonical : P → P) where
   sound-ruled : (es : List (Entry P)) → Ruled (sound-rule nb canonical es) es (sound nb es ≡ true)
@@ -54,20 +65,17 @@ module _ {P : Type 0} (nb : P → P → Bool) (canonical : P → P) where
       go (Some s) e = inr (7, s ∷ [], refl)
 
   entering-ruled : (capacity : ℕ) (es : List (Entry P)) (e : Entry P) → Ruled (entering-rule nb canonical capacity es e) (entered e es) ((dated (stamp-of e) es ≡ false) × (sound nb (entered e es) ≡ true))
-  entering-ruled capacity es e = go (stamp-in-range (stamp-of e)) (number-in-range e) (dated (stamp-of e) es) refl (ltb (length es) capacity) (sound-ruled (entered e es))
+  entering-ruled capacity es e = go (enter-rule capacity es e) (enter-ruled capacity es e)
     where
       last : Ruled (sound-rule nb canonical (entered e es)) (entered e es) (sound nb (entered e es) ≡ true) → dated (stamp-of e) es ≡ false
           → Ruled (sound-rule nb canonical (entered e es)) (entered e es) ((dated (stamp-of e) es ≡ false) × (sound nb (entered e es) ≡ true))
       last (inl k) d = inl (k .0, (d, k .1))
       last (inr k) d = inr k
 
-      go : (a b c : Bool) → dated (stamp-of e) es ≡ c → (d : Bool) → Ruled (sound-rule nb canonical (entered e es)) (entered e es) (sound nb (entered e es) ≡ true)
-          → Ruled (and-so (cond a (cond b (cond c (refused 4 []) (cond d (told (entered e es)) (refused 6 []))) (refused 2 [])) (refused 1 [])) (sound-rule nb canonical)) (entered e es) ((dated (stamp-of e) es ≡ false) × (sound nb (entered e es) ≡ true))
-      go false b c q d k = inr (1, [], refl)
-      go true false c q d k = inr (2, [], refl)
-      go true true true q d k = inr (4, [], refl)
-      go true true false q false k = inr (6, [], refl)
-      go true true false q true k = last k q
+      go : (o : Told (List (Entry P))) → Ruled o (entered e es) (dated (stamp-of e) es ≡ false)
+          → Ruled (and-so o (sound-rule nb canonical)) (entered e es) ((dated (stamp-of e) es ≡ false) × (sound nb (entered e es) ≡ true))
+      go o (inl k) = subst (λ x. Ruled (and-so x (sound-rule nb canonical)) (entered e es) ((dated (stamp-of e) es ≡ false) × (sound nb (entered e es) ≡ true))) (sym (k .0)) (last (sound-ruled (entered e es)) (k .1))
+      go o (inr k) = inr (k .0, k .1, ap (λ x. and-so x (sound-rule nb canonical)) (k .2))
 
   revoking-ruled : (es : List (Entry P)) (s : ℕ) → Ruled (revoking-rule nb canonical es s) (struck s es) ((dated s es ≡ true) × (sound nb (struck s es) ≡ true))
   revoking-ruled es s = go (stamp-in-range s) (dated s es) refl (sound-ruled (struck s es))

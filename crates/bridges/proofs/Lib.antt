@@ -20,3 +20,4 @@ pub mod FindMovers
 pub mod Marks
 pub mod Calls
 pub mod PlaceForms
+pub mod ByRows

@@ -64,12 +64,12 @@ module _ {A : Type 0} where
   among-at x (y ∷ xs) (inr m) = let got = among-at x xs m in (suc (got .0), got .1)
 
 module _ {P : Type 0} where
-  row-later : (n : ℕ) (rs : List (Row P)) (r : Row P) → Rising n (entries rs) → Among r rs → n ≤ stamp-of (entry-of r)
+  pub row-later : (n : ℕ) (rs : List (Row P)) (r : Row P) → Rising n (entries rs) → Among r rs → n ≤ stamp-of (entry-of r)
   row-later n [] r h m = elim m [ ]
   row-later n (x ∷ rs) r h (inl e) = omega (arith, h .0, ap (λ y. stamp-of (entry-of y)) e)
   row-later n (x ∷ rs) r h (inr m) = omega (arith, h .0, row-later (suc (stamp-of (entry-of x))) rs r (h .1) m)
 
-  row-at-place : (n : ℕ) (rs : List (Row P)) (r : Row P) → Rising n (entries rs) → Among r rs → nth rs (earlier rs (stamp-of (entry-of r))) ≡ Some r
+  pub row-at-place : (n : ℕ) (rs : List (Row P)) (r : Row P) → Rising n (entries rs) → Among r rs → nth rs (earlier rs (stamp-of (entry-of r))) ≡ Some r
   row-at-place n [] r h m = elim m [ ]
   row-at-place n (x ∷ rs) r h (inl e) =
       let s = stamp-of (entry-of r) in
@@ -92,7 +92,7 @@ module _ {P : Type 0} where
       let ih = place-of-row (suc (stamp-of (entry-of x))) rs k r (h .1) e in
       rw (lt-ltb (stamp-of (entry-of x)) s (row-later (suc (stamp-of (entry-of x))) rs r (h .1) (at-among k r rs e))) (omega arith)
 
-  dated-row : (s : ℕ) (rs : List (Row P)) → dated s (entries rs) ≡ true → (r : Row P) × Among r rs × (stamp-of (entry-of r) ≡ s)
+  pub dated-row : (s : ℕ) (rs : List (Row P)) → dated s (entries rs) ≡ true → (r : Row P) × Among r rs × (stamp-of (entry-of r) ≡ s)
   dated-row s [] h = absurd (both-ways _ refl h)
   dated-row s (x ∷ rs) h = go (or-cases (eqb (stamp-of (entry-of x)) s) (dated s (entries rs)) h) (dated-row s rs)
     where

@@ -6,3 +6,4 @@ pub mod Rules
 pub mod Marks
 pub mod Law
 pub mod Places
+pub mod ByRows

@@ -1,14 +1,25 @@
 // The theory of the rack book: who moves at a correction, and why the bridges find it.
-// Each function here has a theorem for its contract, which holds of every lawful order; none computes anything.
+// Each function but `hinder_of` has a theorem for its contract, which holds of every lawful order, and computes nothing.
+ghost use mathlib.Core.Path.{_≡_};
+ghost use Rattle.std.specs.declared.option.Option.the-variants.{Some};
+ghost use Rattle.bridges.specs.ByRows.{Answers-by-rows};
 ghost use Rattle.bridges.specs.Counting.{Counting};
 ghost use Rattle.bridges.specs.Law.{Law-of-calls};
 ghost use Rattle.bridges.specs.Marks.{Marks-kept};
 ghost use Rattle.bridges.specs.Movers.{Movers-law, Rack-follows};
 ghost use Rattle.bridges.specs.Places.{Places-told};
 ghost use Rattle.bridges.specs.Racks.{One-folder-more};
-ghost use Rattle.bridges.specs.Rules.{Bridges-find-movers};
+ghost use Rattle.bridges.specs.Rules.{hinder, Bridges-find-movers};
 ghost use Rattle.bridges.specs.Soundness.{Soundness-by-stock};
+use journal::folder::Folder;
 use orders::priority::Priority;
+
+// The hindmost of two folders.
+pub fn hinder_of<P: Priority>(folder: &Folder<P>, other: &Folder<P>) -> Folder<P>
+    ensures { λ r. ⌜ r ≡ hinder (P·Priority .notBehind) (now (folder .entry)) (Some (now (other .entry))) ⌝ }
+{
+    if folder.is_ahead_of(other) { *other } else { *folder }
+}
 
 // One folder more on a rack at the beginning is one folder more at the end.
 pub fn one_folder_more<P: Priority>()
@@ -62,5 +73,11 @@ pub fn law_of_calls<P: Priority>()
 // What the places found on rows stand for, and that waiting at k is the folder with exactly k waiting folders ahead of it.
 pub fn places_tell<P: Priority>()
     ensures { λ _. ⌜ Places-told (P·Priority .notBehind) ⌝ }
+{
+}
+
+// By rows and the waiting list alone each call is replied to as defined, and the rows then carry the later journal.
+pub fn rows_suffice<P: Priority>()
+    ensures { λ _. ⌜ Answers-by-rows (P·Priority .notBehind) (P·Priority .canonical) ⌝ }
 {
 }
