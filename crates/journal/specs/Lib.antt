@@ -2,7 +2,10 @@ pub mod Folders
 pub mod Replay
 pub mod Rows
 pub mod Searches
+pub mod Movers
+pub mod Changes
 pub mod Refusals
 pub mod Racks
 pub mod ShortJournals
 pub mod Entering
+pub mod Calls
