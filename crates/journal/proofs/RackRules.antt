@@ -31,7 +31,7 @@ module _ {P : Type 0} (nb : P → P → Bool) where
   follows capacity rule before after reply k r a = record {
     replied = λ _. r;
     followed = λ _. a;
-    ordered = λ h. ap (in-order nb) a ∙ k .ordered h;
+    kept = λ h. ap (in-order nb) a ∙ k .ordered h;
     within = subst (λ (fs : List (Folder P)). length fs ≤ capacity) (sym a) (k .within);
     untouched = λ n vs e. a ∙ refused-same rule before n vs (sym r ∙ e);
   }

@@ -9,3 +9,4 @@ pub mod Racks
 pub mod ShortJournals
 pub mod Entering
 pub mod Calls
+pub mod DateLines

@@ -9,7 +9,7 @@ use Rattle.orders.specs.Order.{tie}
 use Rattle.orders.specs.Refusal.{Told, told, refused}
 use Rattle.journal.specs.declared.folder.Folder.{Folder}
 use Rattle.journal.specs.Folders.{placed, in-order}
-use Rattle.journal.specs.Refusals.{accepted, later}
+use Rattle.journal.specs.Refusals.{Follows}
 
 -- a rack's greatest capacity, and a date line's
 abbrev pub most-entries : ℕ
@@ -39,10 +39,6 @@ module _ {P : Type 0} (notBehind : P → P → Bool) where
   abbrev pub remove-rule : List (Folder P) → P → ℕ → Told (List (Folder P))
   remove-rule fs p s = cond (holds p s fs) (told (taken-out p s fs)) (refused 5 [])
 
-  -- A rack in order follows the rule and stays in order. In any case it keeps within its capacity, and a refusal changes nothing.
-  pub record Changed (capacity : ℕ) (rule : Told (List (Folder P))) (before after : List (Folder P)) (reply : Told (Unit {0})) : Type 0 where
-    pub replied : in-order notBehind before ≡ true → reply ≡ accepted rule
-    pub followed : in-order notBehind before ≡ true → after ≡ later rule before
-    pub ordered : in-order notBehind before ≡ true → in-order notBehind after ≡ true
-    pub within : length after ≤ capacity
-    pub untouched : (n : ℕ) (vs : List ℕ) → reply ≡ refused n vs → after ≡ before
+  -- what a call that changes a rack promises; in good order is here in order
+  abbrev pub Changed : ℕ → Told (List (Folder P)) → List (Folder P) → List (Folder P) → Told (Unit {0}) → Type 0
+  Changed capacity rule before after reply = Follows (in-order notBehind before ≡ true) (in-order notBehind after ≡ true) capacity rule before after reply

@@ -1,6 +1,8 @@
 -- The number of each refusal, with the values that it carries.
+use mathlib.Core.Path.{_≡_}
 use mathlib.Core.List.{List, [], _∷_}
-use Prim.Native.Nat.{ℕ}
+use Prim.Native.Nat.{ℕ, _≤_}
+use lib.ListN.{length}
 use Rattle.orders.specs.Refusal.{Told, told, refused}
 use Rattle.journal.specs.declared.refusal.ListRefusal.{ListRefusal}
 use Rattle.journal.specs.declared.refusal.ListRefusal.the-variants as list
@@ -40,3 +42,12 @@ later (refused n vs) before = before
 abbrev pub accepted : {A : Type 0} → Told A → Told (Unit {0})
 accepted (told a) = told tt
 accepted (refused n vs) = refused n vs
+
+-- What a call that changes a list promises. Of a list in good order: the reply is the rule's, the list comes to what the rule
+-- gives, and stays in good order. Of any list: it keeps within the capacity, and a refusal changes nothing.
+pub record Follows {A : Type 0} (right stays-right : Type 0) (capacity : ℕ) (rule : Told (List A)) (before after : List A) (reply : Told (Unit {0})) : Type 0 where
+  pub replied : right → reply ≡ accepted rule
+  pub followed : right → after ≡ later rule before
+  pub kept : right → stays-right
+  pub within : length after ≤ capacity
+  pub untouched : (n : ℕ) (vs : List ℕ) → reply ≡ refused n vs → after ≡ before

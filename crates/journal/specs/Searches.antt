@@ -24,8 +24,8 @@ earlier [] s = 0
 earlier (r ∷ rs) s = cond (ltb (stamp-of (entry-of r)) s) (1 + earlier rs s) (earlier rs s)
 
 -- how many rows have a lesser stamp, and whether one has this stamp
-abbrev pub find : {P : Type 0} → List (Row P) → ℕ → ℕ × Bool
-find rs s = (earlier rs s, dated s (entries rs))
+abbrev pub place-and-whether : {P : Type 0} → List (Row P) → ℕ → ℕ × Bool
+place-and-whether rs s = (earlier rs s, dated s (entries rs))
 
 -- a place above the count is read as the count
 abbrev pub place-in : {P : Type 0} → List (Row P) → ℕ → ℕ
