@@ -7,3 +7,4 @@ pub mod Marks
 pub mod Law
 pub mod Places
 pub mod ByRows
+pub mod ShortCuts

@@ -10,6 +10,7 @@ ghost use Rattle.bridges.specs.Movers.{Movers-law, Rack-follows};
 ghost use Rattle.bridges.specs.Places.{Places-told};
 ghost use Rattle.bridges.specs.Racks.{One-folder-more};
 ghost use Rattle.bridges.specs.Rules.{hinder, Bridges-find-movers};
+ghost use Rattle.bridges.specs.ShortCuts.{Short-cuts-miss};
 ghost use Rattle.bridges.specs.Soundness.{Soundness-by-stock};
 use journal::folder::Folder;
 use orders::priority::Priority;
@@ -79,5 +80,11 @@ pub fn places_tell<P: Priority>()
 // By rows and the waiting list alone each call is replied to as defined, and the rows then carry the later journal.
 pub fn rows_suffice<P: Priority>()
     ensures { λ _. ⌜ Answers-by-rows (P·Priority .notBehind) (P·Priority .canonical) ⌝ }
+{
+}
+
+// Three short cuts that earlier books took name the wrong folder or miss a refusal.
+pub fn short_cuts_miss()
+    ensures { λ _. ⌜ Short-cuts-miss ⌝ }
 {
 }
