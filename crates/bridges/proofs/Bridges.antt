@@ -1,21 +1,21 @@
 -- Bridges: the places where nobody on the rack will still be fetched.
-use mathlib.Core.Path.{_≡_, refl, sym, ap, _∙_}
-use mathlib.Core.Bool.{Bool, true, false, cond, not}
-use mathlib.Core.List.{List, [], _∷_, map, List·Memᴰ, List·Memᴰ·head, List·Memᴰ·tail, List·Memᴰ·cases-cons, List·Memᴰ·not-nil}
+use mathlib.Core.Path.{_≡_, refl, ap, _∙_}
+use mathlib.Core.Bool.{Bool, true, false, not}
+use mathlib.Core.List.{List, [], _∷_, List·Memᴰ, List·Memᴰ·head, List·Memᴰ·tail, List·Memᴰ·cases-cons, List·Memᴰ·not-nil}
 use mathlib.Core.Logic.{_⊎_, inl, inr}
-use Prim.Native.Nat.{ℕ, zero, suc, _≤_, _<_}
+use Prim.Native.Nat.{ℕ, _≤_}
 use native.Mathlib.Omega.{arith}
-use lib.ListN.{length, take, drop}
-use lib.IntN.{ℤ, pos, negsuc, _+ℤ_}
-use lib.Signed.{leZ, _≤ℤ_}
-use Rattle.std.proofs.shelf.Tests.{both-ways, not-true, not-false, not-from-true, not-from-false}
+use lib.ListN.{drop}
+use lib.IntN.{pos}
+use lib.Signed.{leZ}
+use Rattle.std.proofs.shelf.Tests.{both-ways, not-true, not-false, not-from-true}
 use Rattle.std.proofs.shelf.Signed.{ints}
 use Rattle.journal.specs.declared.folder.Folder.{Folder}
 use Rattle.journal.specs.declared.entry.Entry.{Entry}
 use Rattle.journal.specs.declared.row.Row.{Row}
 use Rattle.journal.specs.Folders.{has-stamp}
 use Rattle.journal.specs.Replay.{replay, waiting, sound, by-stamp}
-use Rattle.journal.specs.Rows.{entries, stock, balance, Bridge, marked, Marks-agree}
+use Rattle.journal.specs.Rows.{entries, balance, marked, Marks-agree}
 use Rattle.journal.specs.Searches.{low}
 use Rattle.bridges.specs.Racks.{Rising, Served, gone}
 use Rattle.bridges.specs.Counting.{count, rack-at, will-be-fetched, Counting}

@@ -1,16 +1,16 @@
 -- A book's replies by its rows are the defined ones.
-use mathlib.Core.Path.{_≡_, refl, sym, ap, subst, subst₂, _∙_}
+use mathlib.Core.Path.{_≡_, refl, sym, ap, subst, subst₂}
 use mathlib.Core.Bool.{Bool, true, false, cond}
 use mathlib.Core.List.{List, [], _∷_, map}
-use mathlib.Core.Logic.{_⊎_, inl, inr}
-use Prim.Native.Nat.{ℕ, zero, suc, _≤_, _<_}
+use mathlib.Core.Logic.{inl, inr}
+use Prim.Native.Nat.{ℕ, suc}
 use native.Mathlib.Omega.{arith}
-use lib.Dec.{eqb, leb}
+use lib.Dec.{eqb}
 use lib.ListN.{length}
 use Rattle.std.specs.declared.option.Option.{Option}
 use Rattle.std.specs.declared.option.Option.the-variants.{Some, None}
 use Rattle.std.specs.shelf.Maps.{nth}
-use Rattle.std.proofs.shelf.Tests.{both-ways, eq-eqb, ne-eqb, cond-true, cond-false}
+use Rattle.std.proofs.shelf.Tests.{eq-eqb, ne-eqb, cond-true, cond-false}
 use Rattle.orders.specs.Refusal.{Told, told, refused}
 use Rattle.journal.specs.declared.folder.Folder.{Folder}
 use Rattle.journal.specs.declared.entry.Entry.{Entry}
@@ -24,16 +24,16 @@ use Rattle.journal.specs.declared.call.Call.the-variants as call
 use Rattle.journal.specs.declared.call.Standing.{Standing}
 use Rattle.journal.specs.declared.call.Standing.the-variants as standing
 use Rattle.journal.specs.Folders.{has-stamp}
-use Rattle.journal.specs.Replay.{stamp-of, waiting, sound, dated, entered, struck, first-unserved, stood}
-use Rattle.journal.specs.Rows.{entry-of, entries, row-of, marked}
+use Rattle.journal.specs.Replay.{stamp-of, waiting, dated, entered, struck, first-unserved}
+use Rattle.journal.specs.Rows.{entry-of, entries, row-of}
 use Rattle.journal.specs.Searches.{earlier}
 use Rattle.journal.specs.Movers.{entry-at, arrival-mover, taking-mover}
-use Rattle.journal.specs.Entering.{stamp-in-range, number-in-range, enter-rule}
-use Rattle.journal.specs.Calls.{Answer, joined, left, counted, waits-at, standing-is, and-so, or-as-before, if-served, moved, as-meant, sound-rule, revoking-rule, correction, revoke-moves, standing-of, defined-reply, later-journal}
+use Rattle.journal.specs.Entering.{stamp-in-range, enter-rule}
+use Rattle.journal.specs.Calls.{joined, left, counted, waits-at, standing-is, and-so, or-as-before, if-served, moved, as-meant, sound-rule, revoke-moves, standing-of, defined-reply, later-journal}
 use Rattle.bridges.specs.Racks.{Rising}
-use Rattle.bridges.specs.Soundness.{unserved-entered, unserved-struck}
-use Rattle.bridges.specs.Rules.{arrival-rule, taking-rule, fetched-revoked-rule, taking-revoked-rule, Kept}
-use Rattle.bridges.specs.Marks.{arrival-rows, taking-rows, waiting-revoked-rows, fetched-revoked-rows, taking-revoked-rows, Carries}
+use Rattle.bridges.specs.Soundness.{unserved-entered}
+use Rattle.bridges.specs.Rules.{arrival-rule, taking-rule, fetched-revoked-rule, Kept}
+use Rattle.bridges.specs.Marks.{arrival-rows, taking-rows, fetched-revoked-rows, Carries}
 use Rattle.bridges.specs.ByRows.{row-dated, unless-unserved, standing-by, revoke-reply, revoke-rows, reply-by-rows, rows-after, Answers-by-rows}
 use Rattle.bridges.proofs.Ahead.{Lawful}
 use Rattle.bridges.proofs.Members.{Among}

@@ -1,9 +1,9 @@
 -- The law over lists of calls, from the mover's law at each.
 use mathlib.Core.Path.{_≡_, refl, sym, ap, ap₂, subst, _∙_}
-use mathlib.Core.Bool.{Bool, true, false, cond, not, _||_}
+use mathlib.Core.Bool.{Bool, true, false, cond, _||_}
 use mathlib.Core.List.{List, [], _∷_}
 use mathlib.Core.Logic.{_⊎_, inl, inr, _↔_}
-use Prim.Native.Nat.{ℕ, zero, suc, _+_, _≤_, _<_}
+use Prim.Native.Nat.{ℕ, suc, _+_, _≤_}
 use native.Mathlib.Omega.{arith}
 use lib.Dec.{leb, ltb, eqb}
 use lib.ListN.{length}
@@ -16,18 +16,15 @@ use Rattle.journal.specs.declared.entry.Entry.{Entry}
 use Rattle.journal.specs.declared.entry.Entry.the-variants.{Arrival, Taking}
 use Rattle.journal.specs.declared.call.Call.{Call}
 use Rattle.journal.specs.declared.call.Call.the-variants as call
-use Rattle.journal.specs.Folders.{placed}
-use Rattle.journal.specs.Replay.{stamp-of, waiting, sound, by-stamp, dated, entered, struck, first-unserved, stood}
+use Rattle.journal.specs.Replay.{stamp-of, waiting, sound, dated, entered, struck, first-unserved, stood}
 use Rattle.journal.specs.Movers.{entry-at, arrival-mover, taking-mover}
 use Rattle.journal.specs.Entering.{stamp-in-range, number-in-range, enter-rule}
 use Rattle.journal.specs.Calls.{Answer, joined, left, counted, waits-at, standing-is, stood-there, and-so, or-as-before, if-served, moved, as-meant, sound-rule, entering-rule, revoking-rule, correction, revoke-moves, defined-reply, later-journal}
-use Rattle.bridges.specs.Racks.{Rising}
 use Rattle.bridges.specs.Counting.{count}
-use Rattle.bridges.specs.Movers.{One-apart}
 use Rattle.bridges.specs.Law.{Asked, joined-by, left-by, total-of, any, Right, replies, journal-after, Moves-as, Each-moves, Law-of-calls}
 use Rattle.bridges.proofs.Ahead.{Lawful}
 use Rattle.bridges.proofs.Counts.{stamped, count-placed, once}
-use Rattle.bridges.proofs.Journals.{Corrected, entering, striking, rising-journal, by-stamp-rising, sound-served}
+use Rattle.bridges.proofs.Journals.{entering, striking, rising-journal, by-stamp-rising, sound-served}
 use Rattle.bridges.proofs.Movers.{movers-law}
 use Rattle.bridges.proofs.Marks.{rising-lacking, rising-having}
 

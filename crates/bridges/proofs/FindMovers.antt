@@ -1,34 +1,32 @@
 -- Each bridge rule finds the mover of the replay.
 use mathlib.Core.Path.{_≡_, refl, sym, ap, ap₂, subst, _∙_}
-use mathlib.Core.Bool.{Bool, true, false, cond}
+use mathlib.Core.Bool.{Bool, true, false}
 use mathlib.Core.List.{List, [], _∷_, _++_}
-use mathlib.Core.Logic.{_⊎_, inl, inr}
-use Prim.Native.Nat.{ℕ, zero, suc, _+_, _-_, _≤_, _<_}
+use mathlib.Core.Logic.{inl, inr}
+use Prim.Native.Nat.{ℕ, suc, _-_, _≤_}
 use native.Mathlib.Omega.{arith}
 use lib.ListN.{length, take, drop, length-append}
-use lib.Seq.{take-append-seam, drop-append-seam, append-snoc}
-use Rattle.std.specs.declared.option.Option.{Option}
-use Rattle.std.specs.declared.option.Option.the-variants.{Some, None}
+use lib.Seq.{take-append-seam, drop-append-seam}
+use Rattle.std.specs.declared.option.Option.the-variants.{Some}
 use Rattle.std.proofs.shelf.Tests.{both-ways, and-parts}
 use Rattle.journal.specs.declared.folder.Folder.{Folder}
 use Rattle.journal.specs.declared.entry.Entry.{Entry}
 use Rattle.journal.specs.declared.entry.Entry.the-variants.{Arrival, Taking}
-use Rattle.journal.specs.declared.row.Row.{Row}
-use Rattle.journal.specs.Folders.{ahead-of-all, in-order, placed, has-stamp, hindmost-of, hindmost}
-use Rattle.journal.specs.Replay.{stamp-of, replay, rack-after, waiting, sound, by-stamp, dated, entered, struck, folders-of}
+use Rattle.journal.specs.Folders.{ahead-of-all, in-order, placed, has-stamp, hindmost}
+use Rattle.journal.specs.Replay.{replay, rack-after, waiting, sound, entered, struck, folders-of}
 use Rattle.journal.specs.Rows.{entries, marked}
 use Rattle.journal.specs.Searches.{earlier}
-use Rattle.journal.specs.Movers.{entry-at, fetched-from, arrival-mover, taking-mover}
+use Rattle.journal.specs.Movers.{fetched-from, arrival-mover, taking-mover}
 use Rattle.bridges.specs.Racks.{Rising, Stands, Served, gone}
 use Rattle.bridges.specs.Counting.{rack-at}
 use Rattle.bridges.specs.Movers.{One-apart}
-use Rattle.bridges.specs.Rules.{hinder, hindmost-since-bridge, foremost-before-bridge, arrival-rule, taking-rule, fetched-revoked-rule, taking-revoked-rule, Kept, Bridges-find-movers}
+use Rattle.bridges.specs.Rules.{hinder, hindmost-since-bridge, foremost-before-bridge, arrival-rule, taking-rule, fetched-revoked-rule, taking-revoked-rule, Bridges-find-movers}
 use Rattle.bridges.proofs.Ahead.{Lawful}
 use Rattle.bridges.proofs.Racks.{placed-front, stands-taking, rising-earlier}
 use Rattle.bridges.proofs.OneMore.{never-served}
 use Rattle.bridges.proofs.Counts.{one-apart}
 use Rattle.bridges.proofs.Members.{Among, among-has-stamp, among-placed, placed-among}
-use Rattle.bridges.proofs.Journals.{Older, Corrected, entering, striking, rising-journal, rising-append, older-later, replay-append, served-parts, served-sound, fetches-from-append, stands-after}
+use Rattle.bridges.proofs.Journals.{Older, Corrected, entering, striking, rising-journal, older-later, replay-append, served-parts, served-sound, fetches-from-append, stands-after}
 use Rattle.bridges.proofs.Movers.{arrival-corrected, taking-corrected}
 use Rattle.bridges.proofs.Bridges.{Settled, settled}
 use Rattle.bridges.proofs.Soundness.{waiting-between}

@@ -1,22 +1,21 @@
 -- Journals in two parts, and a journal beside the journal with one entry more.
 use mathlib.Core.Path.{_≡_, refl, sym, ap, _∙_}
-use mathlib.Core.Bool.{Bool, true, false, cond, not, _&&_}
+use mathlib.Core.Bool.{Bool, true, false, cond, not}
 use mathlib.Core.List.{List, [], _∷_, _++_, map}
 use Prim.Native.Nat.{ℕ, suc, _≤_, _<_}
 use native.Mathlib.Omega.{arith}
-use lib.Dec.{ltb, leb, eqb}
+use lib.Dec.{ltb, eqb}
 use Rattle.std.specs.declared.option.Option.{Option}
 use Rattle.std.specs.declared.option.Option.the-variants.{Some, None}
 use Rattle.std.specs.Options.{isSome}
-use Rattle.std.proofs.shelf.Tests.{and-parts, and-from, or-parts, ltb-true, ltb-false, eqb-true, eqb-false, le-leb, lt-leb, lt-ltb, cond-false, both-ways}
-use Rattle.std.proofs.shelf.Ways.{tells}
+use Rattle.std.proofs.shelf.Tests.{and-parts, and-from, or-parts, ltb-true, ltb-false, eqb-true, eqb-false, le-leb, lt-leb, lt-ltb, both-ways}
 use Rattle.journal.specs.declared.folder.Folder.{Folder}
 use Rattle.journal.specs.declared.entry.Entry.{Entry}
 use Rattle.journal.specs.declared.entry.Entry.the-variants.{Arrival, Taking}
 use Rattle.journal.specs.Folders.{placed, in-order, ahead-of-all}
-use Rattle.journal.specs.Replay.{stamp-of, rising, by-stamp, dated, entered, struck, replay, fetches, fetches-from, first-empty, sound}
+use Rattle.journal.specs.Replay.{stamp-of, rising, by-stamp, dated, entered, struck, replay, fetches, fetches-from}
 use Rattle.journal.specs.Movers.{entry-at}
-use Rattle.bridges.specs.Racks.{Below, Rising, Stands, Served, gone}
+use Rattle.bridges.specs.Racks.{Below, Rising, Stands, Served}
 use Rattle.bridges.proofs.Ahead.{Lawful}
 use Rattle.bridges.proofs.Racks.{below-later, below-placed, in-order-placed, rising-earlier}
 use Rattle.bridges.proofs.OneMore.{never-served}

@@ -1,17 +1,17 @@
 -- The marks after a change of rows.
-use mathlib.Core.Path.{_≡_, refl, sym, ap, ap₂, subst, _∙_}
+use mathlib.Core.Path.{_≡_, refl, sym, ap, ap₂, _∙_}
 use mathlib.Core.Bool.{Bool, true, false, cond, _||_}
 use mathlib.Core.List.{List, [], _∷_, _++_, map}
 use mathlib.Core.Logic.{_⊎_, inl, inr}
-use Prim.Native.Nat.{ℕ, zero, suc, _+_, _≤_, _<_}
+use Prim.Native.Nat.{ℕ, suc, _+_, _<_}
 use native.Mathlib.Omega.{arith}
-use lib.ListN.{length, take, drop, length-map}
+use lib.ListN.{length, length-map}
 use lib.Seq.{take-append-seam, drop-append-seam}
-use lib.Dec.{eqb, ltb}
+use lib.Dec.{eqb}
 use Rattle.std.specs.declared.option.Option.{Option}
 use Rattle.std.specs.declared.option.Option.the-variants.{Some, None}
 use Rattle.std.specs.shelf.Lists.{inserted, removed}
-use Rattle.std.proofs.shelf.Tests.{both-ways, or-parts, or-from, lt-ltb, le-ltb, eq-eqb, ne-eqb, eqb-true, eqb-false, cases-bool}
+use Rattle.std.proofs.shelf.Tests.{both-ways, or-parts, or-from, lt-ltb, le-ltb, eq-eqb, ne-eqb, eqb-true}
 use Rattle.std.proofs.shelf.Lists.{map-append}
 use Rattle.journal.specs.declared.folder.Folder.{Folder}
 use Rattle.journal.specs.declared.entry.Entry.{Entry}
@@ -25,7 +25,7 @@ use Rattle.journal.specs.Replay.{stamp-of, waiting, sound, dated, entered, stru
 use Rattle.journal.specs.Rows.{entry-of, entries, row-of, marked}
 use Rattle.journal.specs.Searches.{earlier}
 use Rattle.journal.specs.Changes.{put-row, removed-at, marked-as, mark-at}
-use Rattle.journal.specs.Movers.{entry-at, arrival-mover, taking-mover}
+use Rattle.journal.specs.Movers.{arrival-mover, taking-mover}
 use Rattle.bridges.specs.Racks.{Rising}
 use Rattle.bridges.specs.Movers.{One-apart}
 use Rattle.bridges.specs.Rules.{hindmost-since-bridge, hinder, arrival-rule, taking-rule, fetched-revoked-rule, taking-revoked-rule, Kept}

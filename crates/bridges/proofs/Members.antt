@@ -1,21 +1,20 @@
 -- Who is among some folders: on a rack, among the fetched, among the arrivals.
 use mathlib.Core.Path.{_≡_, refl, sym, ap, _∙_}
-use mathlib.Core.Bool.{Bool, true, false, cond, not, _||_}
+use mathlib.Core.Bool.{Bool, true, false, cond}
 use mathlib.Core.List.{List, [], _∷_, _++_}
 use mathlib.Core.Logic.{_⊎_, inl, inr}
-use Prim.Native.Nat.{ℕ, suc, _+_, _≤_, _<_}
+use Prim.Native.Nat.{ℕ, suc, _≤_}
 use native.Mathlib.Omega.{arith}
 use lib.Dec.{eqb}
-use Rattle.std.proofs.shelf.Tests.{eq-eqb, eqb-true, or-left, or-right, or-cases, cases-bool, both-ways}
-use Rattle.std.proofs.shelf.Ways.{tells}
+use Rattle.std.proofs.shelf.Tests.{eq-eqb, eqb-true, or-left, or-right, or-cases, both-ways}
 use Rattle.journal.specs.declared.folder.Folder.{Folder}
 use Rattle.journal.specs.declared.entry.Entry.{Entry}
 use Rattle.journal.specs.declared.entry.Entry.the-variants.{Arrival, Taking}
-use Rattle.journal.specs.Folders.{ahead, placed, has-stamp, in-order, ahead-of-all}
+use Rattle.journal.specs.Folders.{ahead, placed, has-stamp}
 use Rattle.journal.specs.Replay.{replay, waiting, fetched}
 use Rattle.bridges.specs.Racks.{Rising, gone}
 use Rattle.bridges.specs.Counting.{count}
-use Rattle.bridges.proofs.Counts.{arrivals, stamped, stamp-old, once, counted-has-stamp, has-stamp-counted}
+use Rattle.bridges.proofs.Counts.{arrivals, stamped, stamp-old, once, counted-has-stamp}
 
 -- f is one of these
 abbrev pub Among : {A : Type 0} → A → List A → Type 0

@@ -1,18 +1,17 @@
 -- The mover's law, from one folder more.
 use mathlib.Core.Path.{_≡_, refl, sym, ap, _∙_, subst₂}
-use mathlib.Core.Bool.{Bool, true, false}
+use mathlib.Core.Bool.{Bool}
 use mathlib.Core.List.{List, [], _∷_, _++_}
-use Prim.Native.Nat.{ℕ, suc, _≤_, _<_}
+use Prim.Native.Nat.{ℕ, suc}
 use native.Mathlib.Omega.{arith}
-use Rattle.std.specs.declared.option.Option.{Option}
-use Rattle.std.specs.declared.option.Option.the-variants.{Some, None}
+use Rattle.std.specs.declared.option.Option.the-variants.{Some}
 use Rattle.std.proofs.shelf.Tests.{and-parts}
 use Rattle.journal.specs.declared.folder.Folder.{Folder}
 use Rattle.journal.specs.declared.entry.Entry.{Entry}
 use Rattle.journal.specs.declared.entry.Entry.the-variants.{Arrival, Taking}
 use Rattle.journal.specs.Folders.{placed, hindmost-of, hindmost, ahead-of-all, in-order}
-use Rattle.journal.specs.Replay.{stamp-of, replay, waiting, by-stamp, dated, entered, struck, folders-of, sound}
-use Rattle.journal.specs.Movers.{entry-at, arrival-mover, taking-mover}
+use Rattle.journal.specs.Replay.{replay, waiting, entered, struck, folders-of}
+use Rattle.journal.specs.Movers.{arrival-mover, taking-mover}
 use Rattle.bridges.specs.Racks.{Rising, Stands, Served, gone}
 use Rattle.bridges.specs.Movers.{One-apart, Arrival-moves, Taking-moves, Movers-law}
 use Rattle.bridges.proofs.Ahead.{Lawful}

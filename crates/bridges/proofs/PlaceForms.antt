@@ -1,35 +1,32 @@
 -- What the places found stand for.
 use mathlib.Core.Path.{_≡_, refl, sym, ap, ap₂, subst, _∙_}
-use mathlib.Core.Bool.{Bool, true, false, cond, _||_, _&&_}
-use mathlib.Core.List.{List, [], _∷_, List·Memᴰ}
+use mathlib.Core.Bool.{Bool, true, false, cond}
+use mathlib.Core.List.{List, [], _∷_}
 use mathlib.Core.Logic.{_⊎_, inl, inr}
-use Prim.Native.Nat.{ℕ, zero, suc, _+_, _-_, _≤_, _<_, min}
+use Prim.Native.Nat.{ℕ, zero, suc, _+_, _-_, _≤_}
 use native.Mathlib.Omega.{arith}
 use lib.Dec.{eqb, ltb}
 use lib.ListN.{length, take, drop, length-map}
-use lib.IntN.{ℤ, pos}
+use lib.IntN.{pos}
 use lib.Signed.{leZ}
-use Rattle.std.specs.declared.option.Option.{Option}
 use Rattle.std.specs.declared.option.Option.the-variants.{Some, None}
 use Rattle.std.specs.Options.{mapped}
 use Rattle.std.specs.shelf.Maps.{nth}
-use Rattle.std.proofs.shelf.Tests.{both-ways, and-parts, or-cases, lt-ltb, le-ltb, eqb-true, cases-bool}
+use Rattle.std.proofs.shelf.Tests.{both-ways, and-parts, or-cases, lt-ltb, le-ltb, eqb-true}
 use Rattle.std.proofs.shelf.Signed.{ints}
 use Rattle.journal.specs.declared.folder.Folder.{Folder}
-use Rattle.journal.specs.declared.entry.Entry.{Entry}
-use Rattle.journal.specs.declared.entry.Entry.the-variants as entry
 use Rattle.journal.specs.declared.row.Row.{Row}
 use Rattle.journal.specs.declared.row.Row.the-variants.{Arrival, Taking}
 use Rattle.journal.specs.declared.row.Mark.{Mark}
 use Rattle.journal.specs.declared.row.Mark.the-variants.{Waiting, Fetched}
-use Rattle.journal.specs.Folders.{ahead, ahead-of-all, in-order, Foremost, Hindmost, hindmost-of, hindmost, foremost-of, foremost}
-use Rattle.journal.specs.Replay.{stamp-of, by-stamp, dated, waiting}
-use Rattle.journal.specs.Rows.{entry-of, entries, balance, Bridge, marked}
-use Rattle.journal.specs.Searches.{earlier, place-in, low, least-from, greatest-to, first-low-stock, first-low-balance, last-low-balance, with-marked, folders-marked, hindmost-fetched-from, foremost-waiting-before}
+use Rattle.journal.specs.Folders.{ahead, ahead-of-all, in-order, Foremost, hindmost-of, hindmost, foremost-of, foremost}
+use Rattle.journal.specs.Replay.{stamp-of, dated, waiting}
+use Rattle.journal.specs.Rows.{entry-of, entries, balance, Bridge}
+use Rattle.journal.specs.Searches.{earlier, place-in, low, least-from, greatest-to, folders-marked}
 use Rattle.bridges.specs.Racks.{Rising}
 use Rattle.bridges.specs.Counting.{count, rack-at, will-be-fetched}
 use Rattle.bridges.specs.Rules.{Kept}
-use Rattle.bridges.specs.Places.{Read-as-count, Places-told}
+use Rattle.bridges.specs.Places.{Places-told}
 use Rattle.bridges.proofs.Ahead.{Lawful, ahead-asymmetric, ahead-irreflexive}
 use Rattle.bridges.proofs.Racks.{rising-earlier}
 use Rattle.bridges.proofs.Counts.{arrivals}

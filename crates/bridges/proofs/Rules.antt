@@ -1,41 +1,37 @@
 -- The bridge rules find the movers.
-use mathlib.Core.Path.{_≡_, refl, sym, ap, ap₂, subst, subst₂, _∙_}
-use mathlib.Core.Bool.{Bool, true, false, cond, not}
-use mathlib.Core.List.{List, [], _∷_, _++_, map}
+use mathlib.Core.Path.{_≡_, refl, sym, ap, subst, _∙_}
+use mathlib.Core.Bool.{Bool, true, false, cond}
+use mathlib.Core.List.{List, [], _∷_, map}
 use mathlib.Core.Logic.{_⊎_, inl, inr}
-use Prim.Native.Nat.{ℕ, zero, suc, _+_, _-_, _≤_, _<_, min}
+use Prim.Native.Nat.{ℕ, suc, _+_, _-_, _≤_, _<_}
 use native.Mathlib.Omega.{arith}
-use lib.ListN.{length, take, drop, length-map, length-append}
-use lib.Seq.{take-length, take-append-seam, drop-append-seam}
-use lib.IntN.{ℤ, pos}
+use lib.ListN.{length, take, drop, length-map}
+use lib.Seq.{take-length}
+use lib.IntN.{pos}
 use Rattle.std.specs.declared.option.Option.{Option}
 use Rattle.std.specs.declared.option.Option.the-variants.{Some, None}
-use Rattle.std.specs.Options.{mapped, flattened}
+use Rattle.std.specs.Options.{mapped}
 use Rattle.std.proofs.shelf.Tests.{both-ways, not-from-true, and-parts}
 use Rattle.std.proofs.shelf.Lists.{take-map, drop-map}
 use Rattle.journal.specs.declared.folder.Folder.{Folder}
 use Rattle.journal.specs.declared.entry.Entry.{Entry}
-use Rattle.journal.specs.declared.entry.Entry.the-variants.{Arrival, Taking}
 use Rattle.journal.specs.declared.row.Row.{Row}
 use Rattle.journal.specs.declared.row.Mark.the-variants.{Waiting, Fetched}
-use Rattle.journal.specs.Folders.{ahead, ahead-of-all, in-order, placed, has-stamp, hindmost-of, hindmost, foremost}
-use Rattle.journal.specs.Replay.{stamp-of, replay, rack-after, waiting, fetched, sound, by-stamp, dated, entered, struck}
-use Rattle.journal.specs.Rows.{entries, balance, row-of, marked, Marks-agree}
-use Rattle.journal.specs.Searches.{earlier, place-in, low, least-from, greatest-to, first-low-balance, last-low-balance, folders-marked, hindmost-fetched-from, foremost-waiting-before}
-use Rattle.journal.specs.Movers.{entry-at, fetched-from, arrival-mover, taking-mover}
-use Rattle.bridges.specs.Racks.{Rising, Stands, Served, gone}
+use Rattle.journal.specs.Folders.{ahead, ahead-of-all, in-order, has-stamp, hindmost-of, hindmost, foremost}
+use Rattle.journal.specs.Replay.{replay, waiting, fetched}
+use Rattle.journal.specs.Rows.{balance, row-of, marked}
+use Rattle.journal.specs.Searches.{earlier, place-in, low, least-from, greatest-to, first-low-balance, folders-marked, hindmost-fetched-from, foremost-waiting-before}
+use Rattle.bridges.specs.Racks.{Rising, Served, gone}
 use Rattle.bridges.specs.Counting.{count, rack-at}
-use Rattle.bridges.specs.Movers.{One-apart}
-use Rattle.bridges.specs.Rules.{and-then, folder-at, hinder, hindmost-since-bridge, foremost-before-bridge, arrival-rule, taking-rule, fetched-revoked-rule, taking-revoked-rule, Kept, Bridges-find-movers}
+use Rattle.bridges.specs.Rules.{and-then, folder-at, hinder, hindmost-since-bridge, foremost-before-bridge}
 use Rattle.bridges.proofs.Ahead.{Lawful, ahead-asymmetric, ahead-transitive, ahead-cotransitive}
-use Rattle.bridges.proofs.Counts.{arrivals, one-apart}
-use Rattle.bridges.proofs.Members.{Among, among-start, among-end, among-has-stamp, none-counted, same-stamp, fetched-not-waiting, placed-among, among-placed}
-use Rattle.bridges.proofs.Journals.{Older, Corrected, entering, striking, rising-journal, rising-append, older-later, replay-append, served-sound, fetches-from-append}
+use Rattle.bridges.proofs.Counts.{arrivals}
+use Rattle.bridges.proofs.Members.{Among, among-start, among-end, among-has-stamp, none-counted, same-stamp, fetched-not-waiting}
 use Rattle.bridges.proofs.Places.{waiting-at, fetched-later, fetched-earlier, stands-at}
 use Rattle.bridges.proofs.Sums.{missing, balance-at}
 use Rattle.bridges.proofs.Bridges.{Safe-at, Doomed-at, Settled, settled, low-safe, high-doomed}
-use Rattle.bridges.proofs.Extremes.{Apart, Last, First, ahead-of-each, hindmost-last, hindmost-alike, foremost-alike}
-use Rattle.bridges.proofs.Found.{Least, Greatest, least-found, greatest-found}
+use Rattle.bridges.proofs.Extremes.{First, ahead-of-each, hindmost-last, hindmost-alike, foremost-alike}
+use Rattle.bridges.proofs.Found.{Greatest, least-found, greatest-found}
 use Rattle.bridges.proofs.LastBridge.{later, later-sooner, sooner-later}
 use Rattle.bridges.proofs.Marked.{entries-of-rows, waiting-marked, marked-waiting, fetched-marked, marked-fetched, arrival-place}
 

@@ -1,27 +1,23 @@
 -- Which corrections keep a journal sound, and what lifting a folder off that is never fetched changes.
-use mathlib.Core.Path.{_≡_, refl, sym, ap, _∙_, subst₂}
+use mathlib.Core.Path.{_≡_, refl, sym, ap, _∙_}
 use mathlib.Core.Bool.{Bool, true, false, cond}
 use mathlib.Core.List.{List, [], _∷_, _++_}
-use mathlib.Core.Logic.{_⊎_, inl, inr}
-use Prim.Native.Nat.{ℕ, zero, suc, _≤_, _<_}
+use mathlib.Core.Logic.{inl, inr}
+use Prim.Native.Nat.{ℕ, suc, _<_}
 use native.Mathlib.Omega.{arith}
-use Rattle.std.specs.declared.option.Option.{Option}
-use Rattle.std.specs.declared.option.Option.the-variants.{Some, None}
 use Rattle.std.proofs.shelf.Tests.{and-parts, both-ways}
 use Rattle.journal.specs.declared.folder.Folder.{Folder}
 use Rattle.journal.specs.declared.entry.Entry.{Entry}
 use Rattle.journal.specs.declared.entry.Entry.the-variants.{Arrival, Taking}
-use Rattle.journal.specs.declared.row.Row.{Row}
 use Rattle.journal.specs.Folders.{ahead, ahead-of-all, in-order, placed, has-stamp}
-use Rattle.journal.specs.Replay.{stamp-of, replay, waiting, fetched, sound, by-stamp, dated, entered, struck, first-unserved}
+use Rattle.journal.specs.Replay.{replay, waiting, sound, first-unserved}
 use Rattle.journal.specs.Rows.{entries}
-use Rattle.journal.specs.Movers.{entry-at}
 use Rattle.bridges.specs.Racks.{Rising, Stands, Served, gone}
-use Rattle.bridges.specs.Soundness.{Soundness-by-stock, unserved-entered, unserved-struck}
+use Rattle.bridges.specs.Soundness.{Soundness-by-stock, unserved-struck}
 use Rattle.bridges.proofs.Ahead.{Lawful}
-use Rattle.bridges.proofs.Racks.{stands-arrival, stands-taking, placed-swap, placed-front, rising-earlier}
+use Rattle.bridges.proofs.Racks.{stands-arrival, stands-taking, placed-swap, placed-front}
 use Rattle.bridges.proofs.OneMore.{never-served, one-more-served}
-use Rattle.bridges.proofs.Journals.{Older, Corrected, entering, striking, rising-journal, rising-append, older-later, replay-append, served-parts, served-join, served-sound, sound-served, stands-after}
+use Rattle.bridges.proofs.Journals.{Older, entering, striking, rising-journal, rising-append, older-later, replay-append, served-parts, served-join, served-sound, sound-served, stands-after}
 use Rattle.bridges.proofs.Members.{Among, among-right, fetched-not-waiting}
 use Rattle.bridges.proofs.Places.{gone-append}
 use Rattle.bridges.proofs.Stocks.{taking-between-unserved, arrival-between-unserved}

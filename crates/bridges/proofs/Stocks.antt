@@ -1,21 +1,14 @@
 -- Soundness by stock: a run with one folder fewer finds the rack empty just before the first low stock.
 use mathlib.Core.Path.{_≡_, refl, sym, ap, _∙_}
-use mathlib.Core.Bool.{Bool, true, false, cond, not}
-use mathlib.Core.List.{List, [], _∷_, _++_, map}
-use Prim.Native.Nat.{ℕ, zero, suc, _+_, _-_, _≤_, _<_, min}
+use mathlib.Core.Bool.{Bool, true, false, cond}
+use mathlib.Core.List.{List, [], _∷_, _++_}
+use Prim.Native.Nat.{ℕ, zero, suc, _+_, _-_, _≤_}
 use native.Mathlib.Omega.{arith}
-use lib.Dec.{ltb, leb, eqb}
 use lib.ListN.{length, take, drop, length-map, length-append}
 use lib.Seq.{take-append-seam, drop-append-seam}
-use lib.IntN.{ℤ, pos}
-use lib.Signed.{leZ}
 use Rattle.std.specs.declared.option.Option.{Option}
 use Rattle.std.specs.declared.option.Option.the-variants.{Some, None}
-use Rattle.std.specs.Options.{mapped}
-use Rattle.std.specs.shelf.Maps.{nth}
 use Rattle.std.proofs.shelf.Tests.{lt-leb, lt-ltb, le-ltb, eq-eqb, ne-eqb}
-use Rattle.std.proofs.shelf.Ways.{tells}
-use Rattle.std.proofs.shelf.Signed.{ints}
 use Rattle.journal.specs.declared.folder.Folder.{Folder}
 use Rattle.journal.specs.declared.entry.Entry.{Entry}
 use Rattle.journal.specs.declared.entry.Entry.the-variants.{Arrival, Taking}
@@ -29,8 +22,8 @@ use Rattle.bridges.specs.Counting.{rack-at}
 use Rattle.bridges.specs.Soundness.{stamp-before, before-low, new-or-before-low, unserved-entered, unserved-struck}
 use Rattle.bridges.proofs.Racks.{rising-earlier}
 use Rattle.bridges.proofs.OneMore.{never-served}
-use Rattle.bridges.proofs.Journals.{Older, served-parts, served-join}
-use Rattle.bridges.proofs.Places.{step-at, served-at}
+use Rattle.bridges.proofs.Journals.{Older, served-parts}
+use Rattle.bridges.proofs.Places.{step-at}
 use Rattle.bridges.proofs.Sums.{stock-at, length-placed}
 
 -- the stamp of the first taking that finds no folder, where n folders are there at the beginning

@@ -1,9 +1,7 @@
 -- Three short cuts that earlier books took, each with a short journal by weight at which it misses.
 use mathlib.Core.Path.{_≡_}
 use mathlib.Core.List.{List, [], _∷_}
-use Prim.Native.Nat.{ℕ}
 use lib.ListN.{length}
-use Rattle.std.specs.declared.option.Option.{Option}
 use Rattle.std.specs.declared.option.Option.the-variants.{Some, None}
 use Rattle.orders.specs.declared.weight.Weight.{Weight}
 use Rattle.orders.specs.Weight.{weight-notBehind}
