@@ -105,13 +105,15 @@ module _ {P : Type 0} (nb : P → P → Bool) (L : Lawful nb) where
 
   pub counting : Counting nb
   counting = record {
-      stock-counts = λ rs s j. stock-at nb rs (served-sound _ s) j;
-      balance-counts = λ rs b s a j. balance-agrees rs b s a j ∙ ap pos (count-alike _ _ (rack-at nb (entries rs) j) (λ f m. missing-fetched nb (entries rs) j f (rising-journal (entries rs) b) m));
-      never-negative = λ rs b s a j. let e = balance-agrees rs b s a j in omega (arith, ints);
-      bridge-where-none = λ rs b s a j le. (
-        (λ br f m. let es = entries rs in let r = rising-journal es b in let e = balance-agrees rs b s a j in
+    stock-counts = λ rs s j. stock-at nb rs (served-sound _ s) j;
+    balance-counts = λ rs b s a j. balance-agrees rs b s a j ∙ ap pos (count-alike _ _ (rack-at nb (entries rs) j) (λ f m. missing-fetched nb (entries rs) j f (rising-journal (entries rs) b) m));
+    never-negative = λ rs b s a j. let e = balance-agrees rs b s a j in omega (arith, ints);
+    bridge-where-none = λ rs b s a j le. (
+      (λ br f m. let es = entries rs in let r = rising-journal es b in let e = balance-agrees rs b s a j in
           safe-waits es j f r (safe-from-none nb es j r (let z = br .even in omega (arith, ints))) (among f _ m)),
-        (λ h. record { place = le; even = balance-agrees rs b s a j ∙ ap pos (none-counted (missing nb (waiting nb (entries rs))) (rack-at nb (entries rs) j) (λ f m. not-from-true _ (among-has-stamp f (waiting nb (entries rs)) (among f _ (h f (member f _ m)))))) })) }
+      (λ h. record { place = le; even = balance-agrees rs b s a j ∙ ap pos (none-counted (missing nb (waiting nb (entries rs))) (rack-at nb (entries rs) j) (λ f m. not-from-true _ (among-has-stamp f (waiting nb (entries rs)) (among f _ (h f (member f _ m)))))) }),
+    );
+  }
     where
       safe-waits : (es : List (Entry P)) (j : ℕ) (f : Folder P) → Rising 0 es → Safe-at nb es j → Among f (rack-at nb es j) → List·Memᴰ f (waiting nb es)
       safe-waits es j f r safe m = go (settled nb es j f r m)

@@ -102,7 +102,7 @@ module _ {P : Type 0} (nb : P → P → Bool) (canonical : P → P) (L : Lawful 
           let served = served-sound _ (soundness-by-stock nb L .arrival-entered (entries rs) g (k .order) (k .served) (q .1)) in
           subst (Goal g) (sym (q .0))
           (subst (λ u. (told (joined (arrival-rule nb rs g)) ≡ and-so (if-served es′ u) (λ corrected. told (joined (arrival-mover nb (entries rs) g)))) × Carries nb (arrival-rows nb rs g) (or-as-before (if-served es′ u) (entries rs))) (sym served)
-            (ap (λ m. told (joined m)) (bridges-find-movers nb L .arrival rs g k (q .1)), marks-kept nb L .arrival rs g k (q .1)))
+          (ap (λ m. told (joined m)) (bridges-find-movers nb L .arrival rs g k (q .1)), marks-kept nb L .arrival rs g k (q .1)))
       go o (inr q) = subst (Goal (as-meant nb canonical f)) (sym (q .2)) (refl, unchanged rs k)
 
   taking-by-rows : (capacity spare : ℕ) (rs : List (Row P)) (ws : List (Folder P)) (s : ℕ) → Kept nb rs → Right-by-rows capacity spare rs ws (call.Taking s)
@@ -144,7 +144,7 @@ module _ {P : Type 0} (nb : P → P → Bool) (canonical : P → P) (L : Lawful 
       -- the row of a fetched arrival, by the stocks after it
       by-stock : (f : Folder P) → entry-at s (entries rs) ≡ Some (entry.Arrival f) → has-stamp s (waiting nb (entries rs)) ≡ false → (u : Option ℕ) → first-unserved nb (struck s (entries rs)) ≡ u
           → (unless-unserved u (moved left s (fetched-revoked-rule nb rs s)) ≡ and-so (if-served (struck s (entries rs)) u) (λ corrected. told (left (arrival-mover nb corrected f))))
-            × Carries nb (or-as-before (unless-unserved u (told (fetched-revoked-rows nb rs s))) rs) (or-as-before (if-served (struck s (entries rs)) u) (entries rs))
+          × Carries nb (or-as-before (unless-unserved u (told (fetched-revoked-rows nb rs s))) rs) (or-as-before (if-served (struck s (entries rs)) u) (entries rs))
       by-stock f e w None q = let h = sound-served _ q in (ap (moved left s) (bridges-find-movers nb L .fetched-revoked rs s f k e w h), marks-kept nb L .fetched-revoked rs s f k e w h)
       by-stock f e w (Some t) q = (refl, unchanged rs k)
 
@@ -158,7 +158,7 @@ module _ {P : Type 0} (nb : P → P → Bool) (canonical : P → P) (L : Lawful 
           let w : has-stamp s (waiting nb (entries rs)) ≡ false = rw (stamp-is f e) at (fetched-mark _ (mark-is f Fetched m)) in
           let o = first-unserved nb (struck s (entries rs)) in
           subst (λ u. (unless-unserved u (moved left s (fetched-revoked-rule nb rs s)) ≡ and-so (if-served (struck s (entries rs)) o) (λ corrected. told (left (arrival-mover nb corrected f))))
-            × Carries nb (or-as-before (unless-unserved u (told (fetched-revoked-rows nb rs s))) rs) (or-as-before (if-served (struck s (entries rs)) o) (entries rs)))
+          × Carries nb (or-as-before (unless-unserved u (told (fetched-revoked-rows nb rs s))) rs) (or-as-before (if-served (struck s (entries rs)) o) (entries rs)))
           (soundness-by-stock nb L .arrival-struck rs s f (k .order) (k .served) e) (by-stock f e w o refl)
       by-row (Taking t) m e =
           let served = served-sound _ (soundness-by-stock nb L .taking-struck (entries rs) s t (k .order) (k .served) e) in
@@ -210,5 +210,6 @@ module _ {P : Type 0} (nb : P → P → Bool) (canonical : P → P) (L : Lawful 
 
   pub answers-by-rows : Answers-by-rows nb canonical
   answers-by-rows = record {
-      replied = λ capacity spare rs ws c k e. by-rows capacity spare rs ws c k e .0;
-      carried = λ capacity rs c k. by-rows capacity 0 rs (waiting nb (entries rs)) c k refl .1 }
+    replied = λ capacity spare rs ws c k e. by-rows capacity spare rs ws c k e .0;
+    carried = λ capacity rs c k. by-rows capacity 0 rs (waiting nb (entries rs)) c k refl .1;
+  }

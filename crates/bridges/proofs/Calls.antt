@@ -105,18 +105,19 @@ module _ {P : Type 0} (nb : P → P → Bool) (canonical : P → P) (L : Lawful 
       let g = as-meant nb canonical f in
       by-rule nb canonical (correction nb canonical capacity es (call.Arrival f)) es (entered (Arrival g) es) (λ corrected. told (joined (arrival-mover nb es g))) _ (entering-ruled nb canonical capacity es (Arrival g))
       (λ why. let c = entering 0 (Arrival g) es (omega arith) (rising-journal es (r .order)) (why .0) in
-        (record { order = by-stamp-rising 0 _ (rising-having nb (Arrival g) es _ c); served = why .1 }, movers-law nb L .arrival-entered es g (r .order) (why .0) (r .served))) r
+      (record { order = by-stamp-rising 0 _ (rising-having nb (Arrival g) es _ c); served = why .1 }, movers-law nb L .arrival-entered es g (r .order) (why .0) (r .served))) r
   step capacity spare es (call.Taking s) r =
       by-rule nb canonical (correction nb canonical capacity es (call.Taking s)) es (entered (Taking s) es) (λ corrected. moved left s (taking-mover nb corrected s)) _ (entering-ruled nb canonical capacity es (Taking s))
       (λ why. let c = entering 0 (Taking s) es (omega arith) (rising-journal es (r .order)) (why .0) in
-        let got = movers-law nb L .taking-entered es s (r .order) (why .0) (why .1) in
-        (record { order = by-stamp-rising 0 _ (rising-having nb (Taking s) es _ c); served = why .1 },
-         subst (λ o. Moves-as nb canonical (moved left s o) (waiting nb es) (waiting nb (entered (Taking s) es))) (sym (got .1)) (got .2))) r
+      let got = movers-law nb L .taking-entered es s (r .order) (why .0) (why .1) in (
+        record { order = by-stamp-rising 0 _ (rising-having nb (Taking s) es _ c); served = why .1 },
+        subst (λ o. Moves-as nb canonical (moved left s o) (waiting nb es) (waiting nb (entered (Taking s) es))) (sym (got .1)) (got .2),
+      )) r
   step capacity spare es (call.Revoke s) r =
       by-rule nb canonical (correction nb canonical capacity es (call.Revoke s)) es (struck s es) (λ corrected. revoke-moves nb canonical es corrected s (entry-at s es)) _ (revoking-ruled nb canonical es s)
       (λ why. let got = dated-entry s es (why .0) in
-        let c = striking 0 s (got .0) es (rising-journal es (r .order)) (got .1) .2 in
-        (record { order = by-stamp-rising 0 _ (rising-lacking nb (got .0) (struck s es) es c); served = why .1 }, at (got .0) (got .1) (why .1))) r
+      let c = striking 0 s (got .0) es (rising-journal es (r .order)) (got .1) .2 in
+      (record { order = by-stamp-rising 0 _ (rising-lacking nb (got .0) (struck s es) es c); served = why .1 }, at (got .0) (got .1) (why .1))) r
     where
       at : (e : Entry P) → entry-at s es ≡ Some e → sound nb (struck s es) ≡ true → Moves-as nb canonical (revoke-moves nb canonical es (struck s es) s (entry-at s es)) (waiting nb es) (waiting nb (struck s es))
       at (Arrival f) q v =
@@ -197,10 +198,10 @@ module _ {P : Type 0} (nb : P → P → Bool) (canonical : P → P) (L : Lawful 
 
   pub law-of-calls : Law-of-calls nb canonical
   law-of-calls = record {
-      named = run-moves;
-      alike = λ capacity capacity′ es es′ asked p q. (ap₂ (λ n l. replies nb canonical n l asked) p q, ap₂ (λ n l. journal-after nb canonical n l asked) p q);
-      counted-out = run-counted;
-      each-folder = λ capacity asked f is-f h.
+    named = run-moves;
+    alike = λ capacity capacity′ es es′ asked p q. (ap₂ (λ n l. replies nb canonical n l asked) p q, ap₂ (λ n l. journal-after nb canonical n l asked) p q);
+    counted-out = run-counted;
+    each-folder = λ capacity asked f is-f h.
         let start : Right nb canonical [] = record { order = refl; served = refl } in
         let end = journal-after nb canonical capacity [] asked in
         let r = run-right capacity [] asked start in
@@ -208,4 +209,5 @@ module _ {P : Type 0} (nb : P → P → Bool) (canonical : P → P) (L : Lawful 
         let at-most : count is-f (waiting nb end) ≤ 1 = omega (arith, counted-one f is-f h (waiting nb end), once nb (f .stamp) 0 end (rising-journal end (r .order))) in
         let now = counted-any is-f (waiting nb end) at-most in
         omega arith;
-      stays-right = run-right }
+    stays-right = run-right;
+  }

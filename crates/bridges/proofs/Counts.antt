@@ -111,9 +111,10 @@ module _ {P : Type 0} (nb : P → P → Bool) (L : Lawful nb) where
       go false k ih = cond-false (same-key nb (m .priority) (m .stamp) g) _ _ k ∙ ap (λ l. g ∷ l) ih
 
   pub rack-follows : Rack-follows nb
-  rack-follows m fewer more a =
-      (cond-true _ _ _ (ap (holds nb (m .priority) (m .stamp)) (a .joined) ∙ holds-placed m fewer) ∙ ap told (sym (a .left)),
-       λ capacity lt. cond-false (holds nb (m .priority) (m .stamp) fewer) _ _ (holds-none m fewer (a .new)) ∙ cond-true (ltb (length fewer) capacity) _ _ (lt-ltb _ _ lt) ∙ ap told (sym (a .joined)))
+  rack-follows m fewer more a = (
+    cond-true _ _ _ (ap (holds nb (m .priority) (m .stamp)) (a .joined) ∙ holds-placed m fewer) ∙ ap told (sym (a .left)),
+    λ capacity lt. cond-false (holds nb (m .priority) (m .stamp) fewer) _ _ (holds-none m fewer (a .new)) ∙ cond-true (ltb (length fewer) capacity) _ _ (lt-ltb _ _ lt) ∙ ap told (sym (a .joined)),
+  )
 
   -- a waiting list with one folder set in place differs by that one
   pub one-apart : (m : Folder P) (fewer : List (Folder P)) (es : List (Entry P)) → Rising 0 es → waiting nb es ≡ placed nb m fewer → One-apart nb m fewer (waiting nb es)

@@ -117,15 +117,16 @@ module _ {P : Type 0} (nb : P → P → Bool) (L : Lawful nb) where
           let on = stands-taking nb L z s rack (c .after) st in
           let here : rack-at nb es (length (c .before)) ≡ z ∷ rack = rack-seam nb es (c .before) (c .after) (c .lacking-is) ∙ at in
           before-place (length (c .before)) es having rack r v (length-seam nb es (c .before) (c .after) (c .lacking-is))
-            (record {
-              lacking = z;
-              more = here ∙ sym (placed-front nb z rack (and-parts (ahead-of-all nb z rack) (in-order nb rack) (st .order) .0));
-              stands = record { bound = on .bound; below = on .below; order = on .order; rising = rw rest-is (on .rising) };
-              old = omega (arith, st .below .0, st .rising .0);
-              served = rw rest-is k;
-              fetched-or-first = inr here })
-            (ap (waiting nb) (c .having-is) ∙ replay-append nb (c .before) (Taking s ∷ c .after) [] ∙ ap (λ l. replay nb l (Taking s ∷ c .after)) at ∙ ap (replay nb rack) (sym rest-is))
-            m a
+          (record {
+            lacking = z;
+            more = here ∙ sym (placed-front nb z rack (and-parts (ahead-of-all nb z rack) (in-order nb rack) (st .order) .0));
+            stands = record { bound = on .bound; below = on .below; order = on .order; rising = rw rest-is (on .rising) };
+            old = omega (arith, st .below .0, st .rising .0);
+            served = rw rest-is k;
+            fetched-or-first = inr here;
+          })
+          (ap (waiting nb) (c .having-is) ∙ replay-append nb (c .before) (Taking s ∷ c .after) [] ∙ ap (λ l. replay nb l (Taking s ∷ c .after)) at ∙ ap (replay nb rack) (sym rest-is))
+          m a
 
   fetched-found : (f : Folder P) (es lacking : List (Entry P)) → Rising 0 es → Served nb [] es → Corrected 0 (Arrival f) lacking es → has-stamp (f .stamp) (waiting nb es) ≡ false → sound nb lacking ≡ true
       → foremost-before-bridge nb (marked nb es) (suc (earlier (marked nb es) (f .stamp))) ≡ Some (arrival-mover nb lacking f)
@@ -139,15 +140,16 @@ module _ {P : Type 0} (nb : P → P → Bool) (L : Lawful nb) where
       let served = served-parts nb xs ys [] (served-sound _ (rw (c .lacking-is) at h)) .1 in
       ap (λ q. foremost-before-bridge nb (marked nb es) (suc q)) place
       ∙ before-place (suc (length xs)) es lacking (replay nb [] xs) r v (omega (arith, ap length (c .having-is), length-append xs (Arrival f ∷ ys)))
-          (record {
-            lacking = f;
-            more = here;
-            stands = record { bound = on .bound; below = on .below; order = on .order; rising = rw rest-is (on .rising) };
-            old = omega arith;
-            served = rw rest-is served;
-            fetched-or-first = inl (go (settled nb es (suc (length xs)) f r (rw here (among-placed nb f f (replay nb [] xs) (inl refl))))) })
-          (ap (waiting nb) (c .lacking-is) ∙ replay-append nb xs ys [] ∙ ap (replay nb (replay nb [] xs)) (sym rest-is))
-          (arrival-mover nb lacking f) (arrival-corrected nb L f lacking es c h)
+      (record {
+        lacking = f;
+        more = here;
+        stands = record { bound = on .bound; below = on .below; order = on .order; rising = rw rest-is (on .rising) };
+        old = omega arith;
+        served = rw rest-is served;
+        fetched-or-first = inl (go (settled nb es (suc (length xs)) f r (rw here (among-placed nb f f (replay nb [] xs) (inl refl)))));
+      })
+      (ap (waiting nb) (c .lacking-is) ∙ replay-append nb xs ys [] ∙ ap (replay nb (replay nb [] xs)) (sym rest-is))
+      (arrival-mover nb lacking f) (arrival-corrected nb L f lacking es c h)
     where
       go : Settled nb es (suc (length (c .before))) f → Among f (later nb es (suc (length (c .before))))
       go (inl k) = absurd (both-ways _ w (k .0))
@@ -163,33 +165,34 @@ module _ {P : Type 0} (nb : P → P → Bool) (L : Lawful nb) where
 
   pub bridges-find-movers : Bridges-find-movers nb
   bridges-find-movers = record {
-      arrival = λ rs f k d.
+    arrival = λ rs f k d.
         let es = entries rs in
         let r = rising-journal es (k .order) in
         let c = entering 0 (Arrival f) es (omega arith) r d in
         ap (λ l. arrival-rule nb l f) (k .marks)
         ∙ ap (hinder nb f) (since-stamp (f .stamp) es (c .before) (c .after) r (served-sound _ (k .served)) (c .lacking-is) (c .older) (rising-earlier (f .stamp) (suc (f .stamp)) (c .after) (omega arith) (c .rising-after)))
         ∙ hinder-of nb L f (fetched-from nb (f .stamp) es);
-      taking = λ rs s k d h.
+    taking = λ rs s k d h.
         let es = entries rs in
         let r = rising-journal es (k .order) in
         ap (λ l. taking-rule nb l s) (k .marks) ∙ taking-found s es (entered (Taking s) es) r (served-sound _ (k .served)) (entering 0 (Taking s) es (omega arith) r d) h;
-      waiting-revoked = λ rs s f k at w.
+    waiting-revoked = λ rs s f k at w.
         let es = entries rs in
         let r = rising-journal es (k .order) in
         let got = striking 0 s (Arrival f) es r at in
         waiting-found f es (struck s es) r (k .served) (got .2) (rw (← got .0) at w);
-      fetched-revoked = λ rs s f k at w h.
+    fetched-revoked = λ rs s f k at w h.
         let es = entries rs in
         let r = rising-journal es (k .order) in
         let got = striking 0 s (Arrival f) es r at in
         ap (λ l. fetched-revoked-rule nb l s) (k .marks) ∙ ap (fetched-revoked-rule nb (marked nb es)) (sym (got .0))
         ∙ fetched-found f es (struck s es) r (served-sound _ (k .served)) (got .2) (rw (← got .0) at w) h;
-      taking-revoked = λ rs s t k at.
+    taking-revoked = λ rs s t k at.
         let es = entries rs in
         let r = rising-journal es (k .order) in
         let got = striking 0 s (Taking t) es r at in
         let c = got .2 in
         ap (λ l. taking-revoked-rule nb l s) (k .marks) ∙ ap (taking-revoked-rule nb (marked nb es)) (sym (got .0))
         ∙ since-stamp t es (c .before) (Taking t ∷ c .after) r (served-sound _ (k .served)) (c .having-is) (c .older) (omega arith, c .rising-after)
-        ∙ ap (λ n. taking-mover nb es n) (got .0) }
+        ∙ ap (λ n. taking-mover nb es n) (got .0);
+  }

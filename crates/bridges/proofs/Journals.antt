@@ -62,8 +62,15 @@ module _ {P : Type 0} where
       go false t ih ne =
           let lt : stamp-of d < stamp-of e = omega (arith, ltb-false _ _ t) in
           let c = ih lt in
-          record { before = d ∷ c .before; after = c .after; lacking-is = ap (λ l. d ∷ l) (c .lacking-is); having-is = ap (λ l. d ∷ l) (c .having-is);
-            older = (lt, c .older); rising-before = (r .0, c .rising-before); rising-after = c .rising-after }
+          record {
+            before = d ∷ c .before;
+            after = c .after;
+            lacking-is = ap (λ l. d ∷ l) (c .lacking-is);
+            having-is = ap (λ l. d ∷ l) (c .having-is);
+            older = (lt, c .older);
+            rising-before = (r .0, c .rising-before);
+            rising-after = c .rising-after;
+          }
 
   pub striking : (n : ℕ) (s : ℕ) (e : Entry P) (es : List (Entry P)) → Rising n es → entry-at s es ≡ Some e → (stamp-of e ≡ s) × (n ≤ s) × Corrected n e (struck s es) es
   striking n s e [] r h = absurd (let z : _≡_ {A = ℕ} 0 1 = cc in omega arith)
@@ -77,9 +84,19 @@ module _ {P : Type 0} where
           (ap stamp-of (sym same) ∙ at, omega (arith, r .0), record { before = []; after = ds; lacking-is = refl; having-is = ap (λ x. x ∷ ds) same; older = tt; rising-before = tt; rising-after = rw same at (r .1) })
       go false t k ih =
           let got = ih k in
-          let c = got .2 in
-          (got .0, omega (arith, r .0, got .1), record { before = d ∷ c .before; after = c .after; lacking-is = ap (λ l. d ∷ l) (c .lacking-is); having-is = ap (λ l. d ∷ l) (c .having-is);
-            older = (omega (arith, got .0, got .1), c .older); rising-before = (r .0, c .rising-before); rising-after = c .rising-after })
+          let c = got .2 in (
+            got .0,
+            omega (arith, r .0, got .1),
+            record {
+              before = d ∷ c .before;
+              after = c .after;
+              lacking-is = ap (λ l. d ∷ l) (c .lacking-is);
+              having-is = ap (λ l. d ∷ l) (c .having-is);
+              older = (omega (arith, got .0, got .1), c .older);
+              rising-before = (r .0, c .rising-before);
+              rising-after = c .rising-after;
+            },
+          )
 
   pub older-later : (n : ℕ) (es : List (Entry P)) → Older n es → Older (suc n) es
   older-later n [] o = tt

@@ -21,3 +21,4 @@ pub mod Marks
 pub mod Calls
 pub mod PlaceForms
 pub mod ByRows
+pub mod FoldersOrdered

@@ -72,14 +72,16 @@ module _ {P : Type 0} (nb : P → P → Bool) (L : Lawful nb) where
 
   abbrev pub stands-arrival : (f : Folder P) (rack : List (Folder P)) (es : List (Entry P)) → Stands nb rack (Arrival f ∷ es) → Stands nb (placed nb f rack) es
   stands-arrival f rack es st = record {
-      bound = suc (f .stamp);
-      below = below-placed nb (suc (f .stamp)) f rack (omega arith) (below-later (st .bound) (suc (f .stamp)) rack (omega (arith, st .rising .0)) (st .below));
-      order = in-order-placed (st .bound) f rack (st .below) (st .rising .0) (st .order);
-      rising = st .rising .1 }
+    bound = suc (f .stamp);
+    below = below-placed nb (suc (f .stamp)) f rack (omega arith) (below-later (st .bound) (suc (f .stamp)) rack (omega (arith, st .rising .0)) (st .below));
+    order = in-order-placed (st .bound) f rack (st .below) (st .rising .0) (st .order);
+    rising = st .rising .1;
+  }
 
   abbrev pub stands-taking : (y : Folder P) (s : ℕ) (rack : List (Folder P)) (es : List (Entry P)) → Stands nb (y ∷ rack) (Taking s ∷ es) → Stands nb rack es
   stands-taking y s rack es st = record {
-      bound = suc s;
-      below = below-later (st .bound) (suc s) rack (omega (arith, st .rising .0)) (st .below .1);
-      order = and-parts (ahead-of-all nb y rack) (in-order nb rack) (st .order) .1;
-      rising = st .rising .1 }
+    bound = suc s;
+    below = below-later (st .bound) (suc s) rack (omega (arith, st .rising .0)) (st .below .1);
+    order = and-parts (ahead-of-all nb y rack) (in-order nb rack) (st .order) .1;
+    rising = st .rising .1;
+  }

@@ -144,13 +144,13 @@ module _ {P : Type 0} (nb : P → P → Bool) (L : Lawful nb) where
             ∙ ap (λ q. and-then (mapped (λ (f : Folder P). earlier rows (f .stamp)) (hindmost nb (folders-marked Fetched (drop q rows)))) (folder-at rows)) there
             ∙ found-at-place (hindmost nb (folders-marked Fetched (drop b rows))) (λ m e. hindmost-arrived (folders-marked Fetched (drop b rows)) m arrived e)
             ∙ hindmost-alike nb L (folders-marked Fetched (drop b rows)) (later nb es p) (λ f g a c e. same-stamp 0 es f g r e (arrived f a) (arrived g c))
-                (λ g m. later-arrived b safe g (later-sooner nb L es r d b p sum le g m))
-                (λ f m. sooner-later nb L es r d b p sum le (λ i x y. high-doomed nb es i r v (got .2 .none-after i x y)) f (arrived-later b f m))
+            (λ g m. later-arrived b safe g (later-sooner nb L es r d b p sum le g m))
+            (λ f m. sooner-later nb L es r d b p sum le (λ i x y. high-doomed nb es i r v (got .2 .none-after i x y)) f (arrived-later b f m))
 
     pub low-at-end : low (balance rows) (length es) ≡ true
     low-at-end =
         let none : count (missing nb (waiting nb es)) (rack-at nb es (length es)) ≡ 0
-              = none-counted (missing nb (waiting nb es)) (rack-at nb es (length es)) (λ f m. not-from-true _ (among-has-stamp f (waiting nb es) (rw (take-length es) at m))) in
+        = none-counted (missing nb (waiting nb es)) (rack-at nb es (length es)) (λ f m. not-from-true _ (among-has-stamp f (waiting nb es) (rw (take-length es) at m))) in
         rw (balance-at nb es r v (length es) ∙ ap pos none) refl
 
     -- the first bridge from a place
@@ -167,13 +167,16 @@ module _ {P : Type 0} (nb : P → P → Bool) (L : Lawful nb) where
         let n = length es - q in
         let end : q + n ≡ length es = omega arith in
         let size : length rows - q ≡ n = omega (arith, rows-length) in
-        let got = least-found (low (balance rows)) n q (rw end low-at-end) in
-        (got .0, record {
-          found = ap (λ x. least-from (low (balance rows)) x (suc (length rows - x))) here ∙ ap (λ x. least-from (low (balance rows)) q (suc x)) size ∙ got .1;
-          after = got .2 .after;
-          within = omega (arith, got .3);
-          safe = low-safe nb es (got .0) r v (got .2 .passes);
-          doomed = λ i x y. high-doomed nb es i r v (got .2 .none-before i x y) })
+        let got = least-found (low (balance rows)) n q (rw end low-at-end) in (
+          got .0,
+          record {
+            found = ap (λ x. least-from (low (balance rows)) x (suc (length rows - x))) here ∙ ap (λ x. least-from (low (balance rows)) q (suc x)) size ∙ got .1;
+            after = got .2 .after;
+            within = omega (arith, got .3);
+            safe = low-safe nb es (got .0) r v (got .2 .passes);
+            doomed = λ i x y. high-doomed nb es i r v (got .2 .none-before i x y);
+          },
+        )
 
     -- before the first bridge from a place the foremost waiting folder is the first one on the rack there
     pub before-bridge : (q b : ℕ) → First-bridge q b → (h : Folder P) (others : List (Folder P)) → rack-at nb es b ≡ h ∷ others → foremost-before-bridge nb rows q ≡ Some h
@@ -183,8 +186,8 @@ module _ {P : Type 0} (nb : P → P → Bool) (L : Lawful nb) where
         ap (λ o. and-then o (λ c. and-then (foremost-waiting-before nb rows c) (folder-at rows))) (fb .found)
         ∙ ap (λ x. and-then (mapped (λ (f : Folder P). earlier rows (f .stamp)) (foremost nb (folders-marked Waiting (take x rows)))) (folder-at rows)) there
         ∙ ap (λ o. and-then (mapped (λ (f : Folder P). earlier rows (f .stamp)) o) (folder-at rows))
-            (foremost-alike nb L (folders-marked Waiting (take b rows)) h others (λ f g a c e. same-stamp 0 es f g r e (waiting-arrived f (standing f a)) (waiting-arrived g (standing g c)))
-              first (λ f m. standing-marked b (fb .safe) f (rw at m)) (λ f m. rw at at (arrived-standing b f m)))
+        (foremost-alike nb L (folders-marked Waiting (take b rows)) h others (λ f g a c e. same-stamp 0 es f g r e (waiting-arrived f (standing f a)) (waiting-arrived g (standing g c)))
+        first (λ f m. standing-marked b (fb .safe) f (rw at m)) (λ f m. rw at at (arrived-standing b f m)))
         ∙ at-place h (waiting-arrived h (waits h (rw at (inl refl))))
       where
         waits : (f : Folder P) → Among f (rack-at nb es b) → Among f (waiting nb es)

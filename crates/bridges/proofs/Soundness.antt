@@ -65,19 +65,20 @@ module _ {P : Type 0} (nb : P → P → Bool) (L : Lawful nb) where
       let parts = served-parts nb xs (Arrival f ∷ ys) [] (served-sound _ h) in
       let all : Rising 0 (xs ++ Arrival f ∷ ys) = rising-append 0 (f .stamp) xs (Arrival f ∷ ys) r o (omega arith) (omega arith, k) in
       let never : Among f (gone nb (placed nb f (replay nb [] xs)) ys) → ⊥
-            = λ m. both-ways _ (fetched-not-waiting nb 0 (xs ++ Arrival f ∷ ys) f all (rw (gone-append nb xs (Arrival f ∷ ys) []) (among-right f (gone nb [] xs) _ m))) w in
+      = λ m. both-ways _ (fetched-not-waiting nb 0 (xs ++ Arrival f ∷ ys) f all (rw (gone-append nb xs (Arrival f ∷ ys) []) (among-right f (gone nb [] xs) _ m))) w in
       let got = never-fetched ys (replay nb [] xs) f (stands-after nb L (suc (f .stamp)) xs ys r (older-later (f .stamp) xs o) k) (omega arith) (parts .1) never in
       (replay-append nb xs (Arrival f ∷ ys) [] ∙ got .0 ∙ ap (placed nb f) (sym (replay-append nb xs ys [])), sound-served _ (served-join nb xs ys [] (parts .0) (got .1)))
 
   pub soundness-by-stock : Soundness-by-stock nb
   soundness-by-stock = record {
-      taking-entered = λ rs s b h d. let c = entering 0 (Taking s) (entries rs) (omega arith) (rising-journal (entries rs) b) d in
+    taking-entered = λ rs s b h d. let c = entering 0 (Taking s) (entries rs) (omega arith) (rising-journal (entries rs) b) d in
         ap (first-unserved nb) (c .having-is) ∙ taking-between-unserved nb rs (c .before) (c .after) s (c .lacking-is) (c .older) (c .rising-after) (served-sound _ h);
-      arrival-struck = λ rs s f b h at. let got = striking 0 s (Arrival f) (entries rs) (rising-journal (entries rs) b) at in let c = got .2 in
+    arrival-struck = λ rs s f b h at. let got = striking 0 s (Arrival f) (entries rs) (rising-journal (entries rs) b) at in let c = got .2 in
         ap (first-unserved nb) (c .lacking-is) ∙ arrival-between-unserved nb rs (c .before) (c .after) f (c .having-is) (c .older) (c .rising-after) (served-sound _ h) ∙ ap (unserved-struck rs) (got .0);
-      waiting-struck = λ es s f b h at w. let got = striking 0 s (Arrival f) es (rising-journal es b) at in let c = got .2 in
+    waiting-struck = λ es s f b h at w. let got = striking 0 s (Arrival f) es (rising-journal es b) at in let c = got .2 in
         rw (c .lacking-is) (waiting-between (c .before) (c .after) f (c .older) (c .rising-before) (c .rising-after) (rw (c .having-is) at h) (rw (c .having-is) at (rw (← got .0) at w)) .1);
-      arrival-entered = λ es f b h d. let c = entering 0 (Arrival f) es (omega arith) (rising-journal es b) d in
+    arrival-entered = λ es f b h d. let c = entering 0 (Arrival f) es (omega arith) (rising-journal es b) d in
         rw (c .having-is) (arrival-between-sound (c .before) (c .after) f (c .older) (c .rising-before) (c .rising-after) (rw (c .lacking-is) at h));
-      taking-struck = λ es s t b h at. let got = striking 0 s (Taking t) es (rising-journal es b) at in let c = got .2 in
-        rw (c .lacking-is) (taking-between-sound (c .before) (c .after) t (c .older) (c .rising-before) (c .rising-after) (rw (c .having-is) at h)) }
+    taking-struck = λ es s t b h at. let got = striking 0 s (Taking t) es (rising-journal es b) at in let c = got .2 in
+        rw (c .lacking-is) (taking-between-sound (c .before) (c .after) t (c .older) (c .rising-before) (c .rising-after) (rw (c .having-is) at h));
+  }

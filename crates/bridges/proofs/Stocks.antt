@@ -154,7 +154,7 @@ module _ {P : Type 0} (nb : P → P → Bool) where
           unserved-is ∙ ap (λ k. unserved k (Taking s ∷ ys)) (ap length q)
           ∙ ap (unserved n) (sym rest-is) ∙ fewer rs v (length rs - length xs) (length xs) n (omega (arith, size)) l
           ∙ sym (ap (λ p. new-or-before-low rs p s (first-low-stock rs p)) place ∙ ap (new-or-before-low rs (length xs) s) found
-              ∙ not-here rs (length xs) s _ (λ k h. least-after (low (stock rs)) (length rs - length xs) (suc (length xs)) k h))
+          ∙ not-here rs (length xs) s _ (λ k h. least-after (low (stock rs)) (length rs - length xs) (suc (length xs)) k h))
 
   -- an arrival between the first entries and the others, struck out
   pub arrival-between-unserved : (rs : List (Row P)) (xs ys : List (Entry P)) (f : Folder P) → entries rs ≡ xs ++ Arrival f ∷ ys → Older (f .stamp) xs → Rising (suc (f .stamp)) ys → Served nb [] (entries rs)

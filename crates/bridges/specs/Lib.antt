@@ -1,3 +1,4 @@
+pub mod Folders
 pub mod Racks
 pub mod Movers
 pub mod Counting
