@@ -1,12 +1,12 @@
 -- The strict total order of folders, in the subject's words.
 use mathlib.Core.Path.{_≡_, refl, sym}
-use mathlib.Core.Bool.{Bool, true, false}
-use mathlib.Core.List.{List, _∷_, List·Memᴰ}
+use mathlib.Core.Bool.{Bool, true}
+use mathlib.Core.List.{List, _∷_}
 use mathlib.Core.Logic.{_⊎_, inl, inr}
 use Rattle.std.proofs.shelf.Tests.{both-ways, and-parts}
 use Rattle.journal.specs.declared.folder.Folder.{Folder}
 use Rattle.journal.specs.Folders.{ahead, ahead-of-all, in-order, Foremost, foremost-of}
-use Rattle.bridges.specs.Folders.{Stamps-differ, Folders-ordered}
+use Rattle.bridges.specs.Folders.{Folders-ordered}
 use Rattle.bridges.proofs.Ahead.{Lawful, ahead-asymmetric, ahead-transitive, ahead-total}
 use Rattle.bridges.proofs.Members.{Among}
 use Rattle.bridges.proofs.Journals.{rising-journal}

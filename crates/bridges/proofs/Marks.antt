@@ -33,7 +33,7 @@ use Rattle.bridges.specs.Marks.{mover-marked, arrival-change, arrival-rows, ta
 use Rattle.bridges.proofs.Ahead.{Lawful, ahead-irreflexive}
 use Rattle.bridges.proofs.Racks.{rising-earlier}
 use Rattle.bridges.proofs.Counts.{arrivals}
-use Rattle.bridges.proofs.Members.{Among, among-has-stamp, has-stamp-among, among-placed, among-start}
+use Rattle.bridges.proofs.Members.{Among, among-has-stamp, has-stamp-among, among-placed, waiting-arrived}
 use Rattle.bridges.proofs.Journals.{Older, Corrected, entering, striking, rising-journal, rising-append, by-stamp-rising}
 use Rattle.bridges.proofs.Stocks.{earlier-none, earlier-parts}
 use Rattle.bridges.proofs.Marked.{entries-of-rows, arrival-later, arrival-dated}
@@ -204,16 +204,9 @@ module _ {P : Type 0} (nb : P → P → Bool) where
   pub rising-having : (a : Entry P) (lacking having : List (Entry P)) → Corrected 0 a lacking having → Rising 0 having
   rising-having a lacking having c = rw (c .having-is) (rising-append 0 (stamp-of a) (c .before) (a ∷ c .after) (c .rising-before) (c .older) (omega arith) (omega arith, c .rising-after))
 
-  waiting-arrived : (es : List (Entry P)) (f : Folder P) → Among f (waiting nb es) → Among f (arrivals es)
-  waiting-arrived es f m = go (among-start nb f es [] (inl m))
-    where
-      go : Among f [] ⊎ Among f (arrivals es) → Among f (arrivals es)
-      go (inl k) = elim k [ ]
-      go (inr k) = k
-
   -- who makes two waiting lists differ is an arrival of the journal of the longer one
   mover-arrived : (m : Folder P) (fewer : List (Folder P)) (es : List (Entry P)) → One-apart nb m fewer (waiting nb es) → Among m (arrivals es)
-  mover-arrived m fewer es a = waiting-arrived es m (rw (a .joined) (among-placed nb m m fewer (inl refl)))
+  mover-arrived m fewer es a = waiting-arrived nb es m (rw (a .joined) (among-placed nb m m fewer (inl refl)))
 
   -- rows with the marks of the replay carry their journal
   carries : (rs : List (Row P)) (es : List (Entry P)) → rs ≡ marked nb es → Rising 0 es → sound nb es ≡ true → Carries nb rs es

@@ -157,3 +157,18 @@ module _ {P : Type 0} (nb : P → P → Bool) where
   -- who was fetched is not waiting
   pub fetched-not-waiting : (n : ℕ) (es : List (Entry P)) (g : Folder P) → Rising n es → Among g (fetched nb es) → has-stamp (g .stamp) (waiting nb es) ≡ false
   fetched-not-waiting n es g r m = counted-has-stamp (g .stamp) (waiting nb es) (omega (arith, once nb (g .stamp) n es r, among-counted (stamped (g .stamp)) g (fetched nb es) (eq-eqb _ _ refl) m))
+
+  -- who waits, and who was fetched, arrived
+  pub waiting-arrived : (es : List (Entry P)) (f : Folder P) → Among f (waiting nb es) → Among f (arrivals es)
+  waiting-arrived es f m = go (among-start f es [] (inl m))
+    where
+      go : Among f [] ⊎ Among f (arrivals es) → Among f (arrivals es)
+      go (inl k) = elim k [ ]
+      go (inr k) = k
+
+  pub fetched-arrived : (es : List (Entry P)) (f : Folder P) → Among f (fetched nb es) → Among f (arrivals es)
+  fetched-arrived es f m = go (among-start f es [] (inr m))
+    where
+      go : Among f [] ⊎ Among f (arrivals es) → Among f (arrivals es)
+      go (inl k) = elim k [ ]
+      go (inr k) = k

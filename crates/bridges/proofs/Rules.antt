@@ -18,7 +18,7 @@ use Rattle.journal.specs.declared.entry.Entry.{Entry}
 use Rattle.journal.specs.declared.row.Row.{Row}
 use Rattle.journal.specs.declared.row.Mark.the-variants.{Waiting, Fetched}
 use Rattle.journal.specs.Folders.{ahead, ahead-of-all, in-order, has-stamp, hindmost-of, hindmost, foremost}
-use Rattle.journal.specs.Replay.{replay, waiting, fetched}
+use Rattle.journal.specs.Replay.{replay, waiting}
 use Rattle.journal.specs.Rows.{balance, row-of, marked}
 use Rattle.journal.specs.Searches.{earlier, place-in, low, least-from, greatest-to, first-low-balance, folders-marked, hindmost-fetched-from, foremost-waiting-before}
 use Rattle.bridges.specs.Racks.{Rising, Served, gone}
@@ -26,7 +26,7 @@ use Rattle.bridges.specs.Counting.{count, rack-at}
 use Rattle.bridges.specs.Rules.{and-then, folder-at, hinder, hindmost-since-bridge, foremost-before-bridge}
 use Rattle.bridges.proofs.Ahead.{Lawful, ahead-asymmetric, ahead-transitive, ahead-cotransitive}
 use Rattle.bridges.proofs.Counts.{arrivals}
-use Rattle.bridges.proofs.Members.{Among, among-start, among-end, among-has-stamp, none-counted, same-stamp, fetched-not-waiting}
+use Rattle.bridges.proofs.Members.{Among, among-start, among-end, among-has-stamp, none-counted, same-stamp, fetched-not-waiting, waiting-arrived, fetched-arrived}
 use Rattle.bridges.proofs.Places.{waiting-at, fetched-later, fetched-earlier, stands-at}
 use Rattle.bridges.proofs.Sums.{missing, balance-at}
 use Rattle.bridges.proofs.Bridges.{Safe-at, Doomed-at, Settled, settled, low-safe, high-doomed}
@@ -55,27 +55,6 @@ module _ {P : Type 0} (nb : P → P → Bool) (L : Lawful nb) where
 
     rows-length : length rows ≡ length es
     rows-length = length-map es (row-of (waiting nb es))
-
-    fetched-arrived : (f : Folder P) → Among f (fetched nb es) → Among f (arrivals es)
-    fetched-arrived f m = go (among-start nb f es [] (inr m))
-      where
-        go : Among f [] ⊎ Among f (arrivals es) → Among f (arrivals es)
-        go (inl k) = elim k [ ]
-        go (inr k) = k
-
-    waiting-arrived : (f : Folder P) → Among f (waiting nb es) → Among f (arrivals es)
-    waiting-arrived f m = go (among-start nb f es [] (inl m))
-      where
-        go : Among f [] ⊎ Among f (arrivals es) → Among f (arrivals es)
-        go (inl k) = elim k [ ]
-        go (inr k) = k
-
-    standing-arrived : (j : ℕ) (f : Folder P) → Among f (rack-at nb es j) → Among f (arrivals (take j es))
-    standing-arrived j f m = go (among-start nb f (take j es) [] (inl m))
-      where
-        go : Among f [] ⊎ Among f (arrivals (take j es)) → Among f (arrivals (take j es))
-        go (inl k) = elim k [ ]
-        go (inr k) = k
 
     -- the fetched arrivals from a bridge on are those who are fetched after it
     arrived-later : (b : ℕ) → (f : Folder P) → Among f (folders-marked Fetched (drop b rows)) → Among f (later nb es b)
@@ -108,7 +87,7 @@ module _ {P : Type 0} (nb : P → P → Bool) (L : Lawful nb) where
     standing-marked b safe f m = rw (take-map (row-of (waiting nb es)) b es) (go (settled nb es b f r m))
       where
         go : Settled nb es b f → Among f (folders-marked Waiting (map (row-of (waiting nb es)) (take b es)))
-        go (inl k) = waiting-marked (waiting nb es) (take b es) f (standing-arrived b f m) (k .0)
+        go (inl k) = waiting-marked (waiting nb es) (take b es) f (waiting-arrived nb (take b es) f m) (k .0)
         go (inr k) = absurd (safe f m (k .1))
 
     -- the folder at the place of an arrival
@@ -134,7 +113,7 @@ module _ {P : Type 0} (nb : P → P → Bool) (L : Lawful nb) where
         go got =
             let b = got .0 in
             let safe = low-safe nb es b r v (got .2 .passes) in
-            let arrived : (f : Folder P) → Among f (folders-marked Fetched (drop b rows)) → Among f (arrivals es) = λ f m. fetched-arrived f (fetched-later nb es b f (arrived-later b f m)) in
+            let arrived : (f : Folder P) → Among f (folders-marked Fetched (drop b rows)) → Among f (arrivals es) = λ f m. fetched-arrived nb es f (fetched-later nb es b f (arrived-later b f m)) in
             let here : place-in rows p ≡ p = omega (arith, rows-length) in
             let there : place-in rows b ≡ b = omega (arith, rows-length, got .2 .before) in
             let d = p - b in
@@ -186,9 +165,9 @@ module _ {P : Type 0} (nb : P → P → Bool) (L : Lawful nb) where
         ap (λ o. and-then o (λ c. and-then (foremost-waiting-before nb rows c) (folder-at rows))) (fb .found)
         ∙ ap (λ x. and-then (mapped (λ (f : Folder P). earlier rows (f .stamp)) (foremost nb (folders-marked Waiting (take x rows)))) (folder-at rows)) there
         ∙ ap (λ o. and-then (mapped (λ (f : Folder P). earlier rows (f .stamp)) o) (folder-at rows))
-        (foremost-alike nb L (folders-marked Waiting (take b rows)) h others (λ f g a c e. same-stamp 0 es f g r e (waiting-arrived f (standing f a)) (waiting-arrived g (standing g c)))
+        (foremost-alike nb L (folders-marked Waiting (take b rows)) h others (λ f g a c e. same-stamp 0 es f g r e (waiting-arrived nb es f (standing f a)) (waiting-arrived nb es g (standing g c)))
         first (λ f m. standing-marked b (fb .safe) f (rw at m)) (λ f m. rw at at (arrived-standing b f m)))
-        ∙ at-place h (waiting-arrived h (waits h (rw at (inl refl))))
+        ∙ at-place h (waiting-arrived nb es h (waits h (rw at (inl refl))))
       where
         waits : (f : Folder P) → Among f (rack-at nb es b) → Among f (waiting nb es)
         waits f m = go (settled nb es b f r m)

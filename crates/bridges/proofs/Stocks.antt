@@ -4,8 +4,7 @@ use mathlib.Core.Bool.{Bool, true, false, cond}
 use mathlib.Core.List.{List, [], _∷_, _++_}
 use Prim.Native.Nat.{ℕ, zero, suc, _+_, _-_, _≤_}
 use native.Mathlib.Omega.{arith}
-use lib.ListN.{length, take, drop, length-map, length-append}
-use lib.Seq.{take-append-seam, drop-append-seam}
+use lib.ListN.{length, drop, length-map, length-append}
 use Rattle.std.specs.declared.option.Option.{Option}
 use Rattle.std.specs.declared.option.Option.the-variants.{Some, None}
 use Rattle.std.proofs.shelf.Tests.{lt-leb, lt-ltb, le-ltb, eq-eqb, ne-eqb}
@@ -14,7 +13,7 @@ use Rattle.journal.specs.declared.entry.Entry.{Entry}
 use Rattle.journal.specs.declared.entry.Entry.the-variants.{Arrival, Taking}
 use Rattle.journal.specs.declared.row.Row.{Row}
 use Rattle.journal.specs.Folders.{placed}
-use Rattle.journal.specs.Replay.{stamp-of, replay, rack-after, waiting, fetches, first-empty, first-unserved}
+use Rattle.journal.specs.Replay.{stamp-of, replay, rack-after, fetches, first-empty, first-unserved}
 use Rattle.journal.specs.Rows.{entry-of, entries, stock}
 use Rattle.journal.specs.Searches.{earlier, place-in, least-from, low, first-low-stock}
 use Rattle.bridges.specs.Racks.{Rising, Served}
@@ -23,7 +22,7 @@ use Rattle.bridges.specs.Soundness.{stamp-before, before-low, new-or-before-lo
 use Rattle.bridges.proofs.Racks.{rising-earlier}
 use Rattle.bridges.proofs.OneMore.{never-served}
 use Rattle.bridges.proofs.Journals.{Older, served-parts}
-use Rattle.bridges.proofs.Places.{step-at}
+use Rattle.bridges.proofs.Places.{step-at, rack-seam, drop-seam, rack-next, drop-next}
 use Rattle.bridges.proofs.Sums.{stock-at, length-placed}
 
 -- the stamp of the first taking that finds no folder, where n folders are there at the beginning
@@ -132,9 +131,6 @@ module _ {P : Type 0} (nb : P → P → Bool) where
       size : length rs ≡ length xs + length ys
       size = sym (length-map rs entry-of) ∙ ap length e ∙ length-append xs ys
 
-      front : rack-at nb (entries rs) (length xs) ≡ replay nb [] xs
-      front = rw e (ap (waiting nb) (take-append-seam xs ys))
-
       served-front : Served nb [] xs
       served-front = served-parts nb xs ys [] (rw e at v) .0
 
@@ -143,13 +139,13 @@ module _ {P : Type 0} (nb : P → P → Bool) where
 
       go : (rack : List (Folder P)) → replay nb [] xs ≡ rack → first-unserved nb (xs ++ Taking s ∷ ys) ≡ unserved-entered rs s
       go [] q =
-          let l : length (rack-at nb (entries rs) (length xs)) ≡ 0 = ap length (front ∙ q) in
+          let l : length (rack-at nb (entries rs) (length xs)) ≡ 0 = ap length (rack-seam nb (entries rs) xs ys e ∙ q) in
           unserved-is ∙ ap (λ n. unserved n (Taking s ∷ ys)) (ap length q)
           ∙ sym (ap (λ p. new-or-before-low rs p s (first-low-stock rs p)) place ∙ ap (new-or-before-low rs (length xs) s) (from-empty rs v (length xs) (omega (arith, size)) l) ∙ (rw (eq-eqb (length xs) (length xs) refl)))
       go (y ∷ rack) q =
           let n = length rack in
-          let l : length (rack-at nb (entries rs) (length xs)) ≡ suc n = ap length (front ∙ q) in
-          let rest-is : drop (length xs) (entries rs) ≡ ys = ap (drop (length xs)) e ∙ drop-append-seam xs ys in
+          let l : length (rack-at nb (entries rs) (length xs)) ≡ suc n = ap length (rack-seam nb (entries rs) xs ys e ∙ q) in
+          let rest-is : drop (length xs) (entries rs) ≡ ys = drop-seam (entries rs) xs ys e in
           let found = from-filled rs v (length xs) n (omega (arith, size)) l in
           unserved-is ∙ ap (λ k. unserved k (Taking s ∷ ys)) (ap length q)
           ∙ ap (unserved n) (sym rest-is) ∙ fewer rs v (length rs - length xs) (length xs) n (omega (arith, size)) l
@@ -161,7 +157,7 @@ module _ {P : Type 0} (nb : P → P → Bool) where
       → first-unserved nb (xs ++ ys) ≡ unserved-struck rs (f .stamp)
   arrival-between-unserved rs xs ys f e o r v =
       first-empty-append xs ys [] served-front ∙ first-empty-counted ys (replay nb [] xs)
-      ∙ ap (unserved (length (replay nb [] xs))) (sym rest-is) ∙ fewer rs v (length rs - suc (length xs)) (suc (length xs)) (length (replay nb [] xs)) (omega (arith, size)) size-after
+      ∙ ap (unserved (length (replay nb [] xs))) (sym (drop-next (entries rs) xs ys (Arrival f) e)) ∙ fewer rs v (length rs - suc (length xs)) (suc (length xs)) (length (replay nb [] xs)) (omega (arith, size)) size-after
       ∙ ap (before-low rs) (sym (ap (λ p. first-low-stock rs (suc p)) place ∙ from-filled rs v (suc (length xs)) (length (replay nb [] xs)) (omega (arith, size)) size-after))
     where
       place : earlier rs (f .stamp) ≡ length xs
@@ -173,16 +169,5 @@ module _ {P : Type 0} (nb : P → P → Bool) where
       served-front : Served nb [] xs
       served-front = served-parts nb xs (Arrival f ∷ ys) [] (rw e at v) .0
 
-      take-one : (zs : List (Entry P)) → take (suc (length zs)) (zs ++ Arrival f ∷ ys) ≡ zs ++ Arrival f ∷ []
-      take-one [] = refl
-      take-one (z ∷ zs) = ap (λ l. z ∷ l) (take-one zs)
-
-      drop-one : (zs : List (Entry P)) → drop (suc (length zs)) (zs ++ Arrival f ∷ ys) ≡ ys
-      drop-one [] = refl
-      drop-one (z ∷ zs) = drop-one zs
-
-      rest-is : drop (suc (length xs)) (entries rs) ≡ ys
-      rest-is = ap (drop (suc (length xs))) e ∙ drop-one xs
-
       size-after : length (rack-at nb (entries rs) (suc (length xs))) ≡ suc (length (replay nb [] xs))
-      size-after = ap (λ l. length (waiting nb (take (suc (length xs)) l))) e ∙ ap (λ l. length (waiting nb l)) (take-one xs) ∙ ap length (Rattle.bridges.proofs.Journals.replay-append nb xs (Arrival f ∷ []) []) ∙ length-placed nb f (replay nb [] xs)
+      size-after = ap length (rack-next nb (entries rs) xs ys (Arrival f) e) ∙ length-placed nb f (replay nb [] xs)
