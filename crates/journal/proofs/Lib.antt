@@ -2,3 +2,4 @@ pub mod Ahead
 pub mod ByReplay
 pub mod Placed
 pub mod RackRules
+pub mod Walks

@@ -40,7 +40,7 @@ module _ {P : Type 0} (nb : P → P → Bool) where
   taken-out-at p s (g ∷ gs) h = go (same-key nb p s g) (before-key p s gs) (taken-out-at p s gs) h
     where
       go : (b : Bool) (k : ℕ) → (k < length gs → taken-out nb p s gs ≡ take k gs ++ drop (k + 1) gs) → cond (not b) (1 + k) 0 < suc (length gs)
-        → cond b gs (g ∷ taken-out nb p s gs) ≡ take (cond (not b) (1 + k) 0) (g ∷ gs) ++ drop (cond (not b) (1 + k) 0 + 1) (g ∷ gs)
+          → cond b gs (g ∷ taken-out nb p s gs) ≡ take (cond (not b) (1 + k) 0) (g ∷ gs) ++ drop (cond (not b) (1 + k) 0 + 1) (g ∷ gs)
       go true k ih h = refl
       go false k ih h =
           let up : 1 + k + 1 ≡ suc (k + 1) = omega arith in

@@ -27,7 +27,7 @@ module _ {P : Type 0} (nb : P → P → Bool) where
     pub within : length (later rule before) ≤ capacity
 
   pub follows : (capacity : ℕ) (rule : Told (List (Folder P))) (before after : List (Folder P)) (reply : Told (Unit {0}))
-    → Keeps capacity rule before → reply ≡ accepted rule → after ≡ later rule before → Changed nb capacity rule before after reply
+      → Keeps capacity rule before → reply ≡ accepted rule → after ≡ later rule before → Changed nb capacity rule before after reply
   follows capacity rule before after reply k r a = record {
     replied = λ _. r;
     followed = λ _. a;

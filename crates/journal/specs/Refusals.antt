@@ -23,6 +23,12 @@ book-refusal book.Full = (6, [])
 book-refusal (book.NoFolder s) = (7, s ∷ [])
 book-refusal book.TooSmall = (8, [])
 
+-- a rack's or a date line's refusal, as the book gives it: under the same number
+abbrev pub raised : ListRefusal → Refusal
+raised list.Present = book.StampTaken
+raised list.Absent = book.StampAbsent
+raised list.Full = book.Full
+
 -- A rule for a change: it gives what the thing becomes, or refuses.
 
 -- what a thing is after a change by the rule: a refused one has changed nothing

@@ -27,6 +27,8 @@ impl<P: Priority> Folder<P> {
     pub fn has_key(&self, priority: &P, stamp: u32) -> bool
         ensures { λ r. ⌜ r ≡ same-key (P·Priority .notBehind) (now (priority .entry)) stamp (now (self .entry)) ⌝ }
     {
-        priority.not_behind(&self.priority) && self.priority.not_behind(priority) && stamp == self.stamp
+        priority.not_behind(&self.priority)
+            && self.priority.not_behind(priority)
+            && stamp == self.stamp
     }
 }

@@ -1,6 +1,7 @@
 // The interface of a lawful order.
 ghost use mathlib.Core.Bool.{Bool, true, false};
 ghost use mathlib.Core.Path.{_≡_};
+ghost use Rattle.orders.specs.Refusal.{priority-refusal};
 
 // A kind of priority, by the one question that a lawful order answers.
 // The laws hold of every value of the type, also of those that no making gives out.
@@ -30,4 +31,15 @@ pub trait Priority: Copy {
 #[derive(Clone, Copy, PartialEq, Eq, Debug)]
 pub enum PriorityFault {
     OutOfBounds,
+}
+
+impl PriorityFault {
+    // The number under which docs/RULES.md lists it.
+    pub fn number(&self) -> u8
+        ensures { λ r. ⌜ r ≡ priority-refusal (now (self .entry)) .0 ⌝ }
+    {
+        match *self {
+            PriorityFault::OutOfBounds => 3,
+        }
+    }
 }

@@ -11,15 +11,15 @@ use Rattle.std.proofs.shelf.Parts.{between-is, take-putMid}
 
 module _ {X : Type 0} (xs : List X) (n place : ℕ) where
   rotated-right : (x : X) (ys : List X) → place ≤ n → n < length xs
-    → ys ≡ drop (length (take (n + 1 - place) (drop place (set xs n x))) - 1) (take (n + 1 - place) (drop place (set xs n x))) ++ take (length (take (n + 1 - place) (drop place (set xs n x))) - 1) (take (n + 1 - place) (drop place (set xs n x)))
-    → ys ≡ x ∷ drop place (take n xs)
+      → ys ≡ drop (length (take (n + 1 - place) (drop place (set xs n x))) - 1) (take (n + 1 - place) (drop place (set xs n x))) ++ take (length (take (n + 1 - place) (drop place (set xs n x))) - 1) (take (n + 1 - place) (drop place (set xs n x)))
+      → ys ≡ x ∷ drop place (take n xs)
   rotated-right x ys le lt e =
       let front : length (take n xs) ≡ n = length-take n xs ∙ omega arith in
       let part : take (n + 1 - place) (drop place (set xs n x)) ≡ drop place (take n xs) ++ x ∷ [] =
-        between-is (set xs n x) place (n + 1) ∙ ap (drop place) (take-more-set xs n x lt) ∙ drop-append-le place (take n xs) (x ∷ []) (omega arith) in
+      between-is (set xs n x) place (n + 1) ∙ ap (drop place) (take-more-set xs n x lt) ∙ drop-append-le place (take n xs) (x ∷ []) (omega arith) in
       let m : List X = drop place (take n xs) in
       let short : length (take (n + 1 - place) (drop place (set xs n x))) - 1 ≡ length (drop place (take n xs)) =
-        ap (λ (l : List X). length l - 1) part ∙ ap (λ k. k - 1) (length-append (drop place (take n xs)) (x ∷ [])) ∙ omega arith in
+      ap (λ (l : List X). length l - 1) part ∙ ap (λ k. k - 1) (length-append (drop place (take n xs)) (x ∷ [])) ∙ omega arith in
       e
       ∙ ap (λ (k : ℕ). drop k (take (n + 1 - place) (drop place (set xs n x))) ++ take k (take (n + 1 - place) (drop place (set xs n x)))) short
       ∙ ap (λ (l : List X). drop (length (drop place (take n xs))) l ++ take (length (drop place (take n xs))) l) part
@@ -27,8 +27,8 @@ module _ {X : Type 0} (xs : List X) (n place : ℕ) where
       ∙ ap (λ (l : List X). x ∷ l) (take-at (drop place (take n xs)) (x ∷ []) _ refl)
 
   pub rotated-in : (x : X) (ys : List X) → place ≤ n → n < length xs
-    → ys ≡ drop (length (take (n + 1 - place) (drop place (set xs n x))) - 1) (take (n + 1 - place) (drop place (set xs n x))) ++ take (length (take (n + 1 - place) (drop place (set xs n x))) - 1) (take (n + 1 - place) (drop place (set xs n x)))
-    → take (n + 1) (putMid place (n + 1 - place) (set xs n x) ys) ≡ take place (take n xs) ++ x ∷ drop place (take n xs)
+      → ys ≡ drop (length (take (n + 1 - place) (drop place (set xs n x))) - 1) (take (n + 1 - place) (drop place (set xs n x))) ++ take (length (take (n + 1 - place) (drop place (set xs n x))) - 1) (take (n + 1 - place) (drop place (set xs n x)))
+      → take (n + 1) (putMid place (n + 1 - place) (set xs n x) ys) ≡ take place (take n xs) ++ x ∷ drop place (take n xs)
   rotated-in x ys le lt e =
       let is : ys ≡ x ∷ drop place (take n xs) = rotated-right x ys le lt e in
       let front : length (take n xs) ≡ n = length-take n xs ∙ omega arith in
@@ -38,8 +38,8 @@ module _ {X : Type 0} (xs : List X) (n place : ℕ) where
       ∙ ap (λ l. take place (take n xs) ++ l) is
 
   pub rotated-out : (ys : List X) → place < n → n ≤ length xs
-    → ys ≡ drop 1 (take (n - place) (drop place xs)) ++ take 1 (take (n - place) (drop place xs))
-    → take (n - 1) (putMid place (n - place) xs ys) ≡ take place (take n xs) ++ drop (place + 1) (take n xs)
+      → ys ≡ drop 1 (take (n - place) (drop place xs)) ++ take 1 (take (n - place) (drop place xs))
+      → take (n - 1) (putMid place (n - place) xs ys) ≡ take place (take n xs) ++ drop (place + 1) (take n xs)
   rotated-out ys lt le e =
       let m : List X = drop place (take n xs) in
       let is : ys ≡ drop 1 (drop place (take n xs)) ++ take 1 (drop place (take n xs)) = e ∙ ap (λ (l : List X). drop 1 l ++ take 1 l) (between-is xs place n) in

@@ -15,13 +15,11 @@ ghost use Rattle.racks.specs.Flat.{flat-capacity, flat-items};
 use crate::front::insert_at;
 use crate::front::item_at;
 use crate::front::remove_at;
+use journal::entry::MOST_ENTRIES;
 use journal::folder::Folder;
 use journal::rack::Rack;
 use journal::refusal::ListRefusal;
 use orders::priority::Priority;
-
-// The greatest capacity.
-const MOST_ENTRIES: usize = 4096;
 
 // Folders in order, foremost first, in the first slots.
 #[derive(Drop)]
@@ -57,7 +55,12 @@ fn place_of<P: Priority>(slots: &[Folder<P>], n: usize, priority: &P, stamp: u32
 }
 
 // Puts a folder among the first n, in its place.
-fn put_in<P: Priority>(slots: &mut [Folder<P>], n: usize, capacity: usize, folder: &Folder<P>) -> Result<(), ListRefusal>
+fn put_in<P: Priority>(
+    slots: &mut [Folder<P>],
+    n: usize,
+    capacity: usize,
+    folder: &Folder<P>,
+) -> Result<(), ListRefusal>
     requires within { ⌜ n ≤ capacity ⌝ }
     requires room { ⌜ capacity ≤ length (now slots) ⌝ }
     ensures { λ r. ⌜ Changed (P·Priority .notBehind) capacity (put-rule (P·Priority .notBehind) capacity (take n (now (slots .entry))) (now (folder .entry))) (take n (now (slots .entry))) (take (cond (isOk r) (n + 1) n) (now (slots .exit))) (reply list-refusal r) ⌝ }
@@ -74,7 +77,12 @@ fn put_in<P: Priority>(slots: &mut [Folder<P>], n: usize, capacity: usize, folde
 }
 
 // Removes the folder of a priority and stamp from among the first n.
-fn remove_from<P: Priority>(slots: &mut [Folder<P>], n: usize, priority: &P, stamp: u32) -> Result<(), ListRefusal>
+fn remove_from<P: Priority>(
+    slots: &mut [Folder<P>],
+    n: usize,
+    priority: &P,
+    stamp: u32,
+) -> Result<(), ListRefusal>
     requires { ⌜ n ≤ length (now slots) ⌝ }
     ensures { λ r. ⌜ Changed (P·Priority .notBehind) n (remove-rule (P·Priority .notBehind) (take n (now (slots .entry))) (now (priority .entry)) stamp) (take n (now (slots .entry))) (take (cond (isOk r) (n - 1) n) (now (slots .exit))) (reply list-refusal r) ⌝ }
 {
@@ -130,5 +138,83 @@ pub impl<'a, P: Priority> Rack<P> for FlatRack<'a, P> as FlatRackRack {
         remove_from(self.slots, n, priority, stamp)?;
         self.count = n - 1;
         Ok(())
+    }
+}
+
+#[cfg(test)]
+mod tests {
+    use super::*;
+    use journal::folder::FolderClone;
+    use journal::refusal::ListRefusalDebug;
+    use journal::refusal::ListRefusalPartialEq;
+    use orders::priority::PriorityFaultDebug;
+    use orders::weight::Weight;
+    use orders::weight::WeightPriority;
+    use std::test::*;
+
+    fn folder(stamp: u32, bytes: u64) -> Result<Folder<Weight>, Fail> {
+        let priority = Weight::new(bytes)?;
+        Ok(Folder {
+            stamp,
+            priority,
+            number: 7,
+        })
+    }
+
+    // Whether just these stamps stand on the rack, in this order.
+    fn stands(rack: &FlatRack<'_, Weight>, stamps: &[u32]) -> Result<(), Fail> {
+        check_eq(rack.count(), stamps.len())?;
+        for (place, stamp) in stamps.iter().enumerate() {
+            let found = rack.at(place).ok_or("no folder")?;
+            check_eq(found.stamp, *stamp)?;
+        }
+        check(rack.at(stamps.len()).is_none())
+    }
+
+    #[test]
+    fn no_slot() -> Result<(), Fail> {
+        let mut slots = [folder(1, 1)?; 0];
+        let mut rack = FlatRack::new(&mut slots);
+        check_eq(rack.capacity(), 0)?;
+        check_eq(rack.put(&folder(1, 5)?), Err(ListRefusal::Full))?;
+        check_eq(
+            rack.remove(&folder(1, 5)?.priority, 1),
+            Err(ListRefusal::Absent),
+        )?;
+        stands(&rack, &[])
+    }
+
+    #[test]
+    fn one_slot() -> Result<(), Fail> {
+        let mut slots = [folder(9, 9)?; 1];
+        let mut rack = FlatRack::new(&mut slots);
+        stands(&rack, &[])?;
+        rack.put(&folder(1, 5)?)?;
+        check_eq(rack.put(&folder(1, 5)?), Err(ListRefusal::Present))?;
+        check_eq(rack.put(&folder(2, 5)?), Err(ListRefusal::Full))?;
+        check_eq(
+            rack.remove(&folder(1, 6)?.priority, 1),
+            Err(ListRefusal::Absent),
+        )?;
+        stands(&rack, &[1])?;
+        rack.remove(&folder(1, 5)?.priority, 1)?;
+        rack.put(&folder(2, 5)?)?;
+        stands(&rack, &[2])
+    }
+
+    #[test]
+    fn full() -> Result<(), Fail> {
+        let mut slots = [folder(9, 9)?; 4];
+        let mut rack = FlatRack::new(&mut slots);
+        for (stamp, bytes) in [(10, 5), (20, 5), (5, 7), (30, 2)] {
+            rack.put(&folder(stamp, bytes)?)?;
+        }
+        stands(&rack, &[30, 10, 20, 5])?;
+        check_eq(rack.put(&folder(20, 5)?), Err(ListRefusal::Present))?;
+        check_eq(rack.put(&folder(40, 1)?), Err(ListRefusal::Full))?;
+        rack.remove(&folder(10, 5)?.priority, 10)?;
+        stands(&rack, &[30, 20, 5])?;
+        rack.clear();
+        stands(&rack, &[])
     }
 }

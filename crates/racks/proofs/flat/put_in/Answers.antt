@@ -20,7 +20,7 @@ pub insert-at-requires : need.insert-at-requires
 insert-at-requires g c κs =
     record {
       within = omega (arith, leading-within (λ x. not (ahead (g .P·Priority .notBehind) (c .args .folder .now) x)) (c .args .slots .now) (c .args .n) (omega arith));
-      room = omega arith
+      room = omega arith;
     }
 
 pub returns : need.returns

@@ -1,0 +1,3 @@
+pub mod Enter
+pub mod Into
+pub mod Plan
