@@ -42,7 +42,7 @@ use Rattle.bridges.proofs.Soundness.{soundness-by-stock}
 use Rattle.bridges.proofs.FindMovers.{bridges-find-movers}
 use Rattle.bridges.proofs.Marks.{marks-kept}
 use Rattle.bridges.proofs.PlaceForms.{row-later, dated-row, row-at-place}
-use Rattle.bridges.proofs.Calls.{Ruled, enter-ruled}
+use Rattle.bridges.proofs.Calls.{Ruled, Enterable, enter-ruled}
 
 waiting-mark : (b : Bool) → Waiting ≡ cond b Waiting Fetched → b ≡ true
 waiting-mark true e = refl
@@ -95,14 +95,14 @@ module _ {P : Type 0} (nb : P → P → Bool) (canonical : P → P) (L : Lawful 
       Goal g o = (and-so o (λ es. told (joined (arrival-rule nb rs g))) ≡ and-so (and-so o (sound-rule nb canonical)) (λ corrected. told (joined (arrival-mover nb (entries rs) g))))
           × Carries nb (or-as-before (and-so o (λ es. told (arrival-rows nb rs g))) rs) (or-as-before (and-so o (sound-rule nb canonical)) (entries rs))
 
-      go : (o : Told (List (Entry P))) → Ruled o (entered (entry.Arrival (as-meant nb canonical f)) (entries rs)) (dated (f .stamp) (entries rs) ≡ false) → Goal (as-meant nb canonical f) o
+      go : (o : Told (List (Entry P))) → Ruled o (entered (entry.Arrival (as-meant nb canonical f)) (entries rs)) (Enterable capacity (entries rs) (entry.Arrival (as-meant nb canonical f))) → Goal (as-meant nb canonical f) o
       go o (inl q) =
           let g = as-meant nb canonical f in
           let es′ = entered (entry.Arrival g) (entries rs) in
-          let served = served-sound _ (soundness-by-stock nb L .arrival-entered (entries rs) g (k .order) (k .served) (q .1)) in
+          let served = served-sound _ (soundness-by-stock nb L .arrival-entered (entries rs) g (k .order) (k .served) (q .1 .free)) in
           subst (Goal g) (sym (q .0))
           (subst (λ u. (told (joined (arrival-rule nb rs g)) ≡ and-so (if-served es′ u) (λ corrected. told (joined (arrival-mover nb (entries rs) g)))) × Carries nb (arrival-rows nb rs g) (or-as-before (if-served es′ u) (entries rs))) (sym served)
-          (ap (λ m. told (joined m)) (bridges-find-movers nb L .arrival rs g k (q .1)), marks-kept nb L .arrival rs g k (q .1)))
+          (ap (λ m. told (joined m)) (bridges-find-movers nb L .arrival rs g k (q .1 .free)), marks-kept nb L .arrival rs g k (q .1 .free)))
       go o (inr q) = subst (Goal (as-meant nb canonical f)) (sym (q .2)) (refl, unchanged rs k)
 
   taking-by-rows : (capacity spare : ℕ) (rs : List (Row P)) (ws : List (Folder P)) (s : ℕ) → Kept nb rs → Right-by-rows capacity spare rs ws (call.Taking s)
@@ -120,10 +120,10 @@ module _ {P : Type 0} (nb : P → P → Bool) (canonical : P → P) (L : Lawful 
       by d None e = let h = sound-served _ e in (ap (moved left s) (bridges-find-movers nb L .taking rs s k d h), marks-kept nb L .taking rs s k d h)
       by d (Some t) e = (refl, unchanged rs k)
 
-      go : (o : Told (List (Entry P))) → Ruled o (entered (entry.Taking s) (entries rs)) (dated s (entries rs) ≡ false) → Goal o (unserved-entered rs s)
+      go : (o : Told (List (Entry P))) → Ruled o (entered (entry.Taking s) (entries rs)) (Enterable capacity (entries rs) (entry.Taking s)) → Goal o (unserved-entered rs s)
       go o (inl q) =
-          let u = soundness-by-stock nb L .taking-entered rs s (k .order) (k .served) (q .1) in
-          let both = by (q .1) (first-unserved nb (entered (entry.Taking s) (entries rs))) refl in
+          let u = soundness-by-stock nb L .taking-entered rs s (k .order) (k .served) (q .1 .free) in
+          let both = by (q .1 .free) (first-unserved nb (entered (entry.Taking s) (entries rs))) refl in
           subst (λ x. Goal x (unserved-entered rs s)) (sym (q .0)) (subst (Goal (told (entered (entry.Taking s) (entries rs)))) u both)
       go o (inr q) = subst (λ x. Goal x (unserved-entered rs s)) (sym (q .2)) (refl, unchanged rs k)
 

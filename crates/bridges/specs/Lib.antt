@@ -9,3 +9,4 @@ pub mod Law
 pub mod Places
 pub mod ByRows
 pub mod ShortCuts
+pub mod Keeping

@@ -5,6 +5,7 @@ ghost use Rattle.std.specs.declared.option.Option.the-variants.{Some};
 ghost use Rattle.bridges.specs.ByRows.{Answers-by-rows};
 ghost use Rattle.bridges.specs.Counting.{Counting};
 ghost use Rattle.bridges.specs.Folders.{Folders-ordered};
+ghost use Rattle.bridges.specs.Keeping.{Keeps};
 ghost use Rattle.bridges.specs.Law.{Law-of-calls};
 ghost use Rattle.bridges.specs.Marks.{Marks-kept};
 ghost use Rattle.bridges.specs.Movers.{Movers-law, Rack-follows};
@@ -71,6 +72,11 @@ pub fn marks_stay_right<P: Priority>()
 // that its reply names; equal books reply alike; each folder joined as often as it left, and once more if it waits now.
 pub fn law_of_calls<P: Priority>()
     ensures { λ _. ⌜ Law-of-calls (P·Priority .notBehind) (P·Priority .canonical) ⌝ }
+{}
+
+// Every call keeps the entries within their bounds and the journal within the capacity, so a rack has room for whoever joins.
+pub fn calls_keep<P: Priority>()
+    ensures { λ _. ⌜ Keeps (P·Priority .notBehind) (P·Priority .canonical) ⌝ }
 {}
 
 // What the places found on rows stand for, and that waiting at k is the folder with exactly k waiting folders ahead of it.
