@@ -1,11 +1,11 @@
 -- What the places found stand for.
 use mathlib.Core.Path.{_≡_, refl, sym, ap, ap₂, subst, _∙_}
-use mathlib.Core.Bool.{Bool, true, false, cond}
+use mathlib.Core.Bool.{Bool, true, false}
 use mathlib.Core.List.{List, [], _∷_}
 use mathlib.Core.Logic.{_⊎_, inl, inr}
 use Prim.Native.Nat.{ℕ, zero, suc, _+_, _-_, _≤_}
 use native.Mathlib.Omega.{arith}
-use lib.Dec.{eqb, ltb}
+use lib.Dec.{eqb}
 use lib.ListN.{length, take, drop, length-map}
 use lib.IntN.{pos}
 use lib.Signed.{leZ}
@@ -35,7 +35,7 @@ use Rattle.bridges.proofs.Journals.{rising-journal, served-sound, order-replay
 use Rattle.bridges.proofs.Bridges.{member, among, counting}
 use Rattle.bridges.proofs.Extremes.{Apart, Last, First, ahead-of-each, neither-ahead, hindmost-last, foremost-first}
 use Rattle.bridges.proofs.Found.{least-found, greatest-found}
-use Rattle.bridges.proofs.Stocks.{earlier-none}
+use Rattle.bridges.proofs.Stocks.{earlier-none, earlier-within}
 use Rattle.bridges.proofs.Rules.{low-at-end}
 
 module _ {A : Type 0} where
@@ -96,14 +96,6 @@ module _ {P : Type 0} where
       go : (eqb (stamp-of (entry-of x)) s ≡ true) ⊎ (dated s (entries rs) ≡ true) → (dated s (entries rs) ≡ true → (r : Row P) × Among r rs × (stamp-of (entry-of r) ≡ s)) → (r : Row P) × Among r (x ∷ rs) × (stamp-of (entry-of r) ≡ s)
       go (inl e) ih = (x, inl refl, eqb-true _ _ e)
       go (inr k) ih = let got = ih k in (got .0, inr (got .1), got .2)
-
-  earlier-within : (rs : List (Row P)) (s : ℕ) → earlier rs s ≤ length rs
-  earlier-within [] s = omega arith
-  earlier-within (x ∷ rs) s = go (ltb (stamp-of (entry-of x)) s) (earlier-within rs s)
-    where
-      go : (b : Bool) → earlier rs s ≤ length rs → cond b (1 + earlier rs s) (earlier rs s) ≤ suc (length rs)
-      go true ih = omega arith
-      go false ih = omega arith
 
   -- a folder with a mark is of an arrival's row with that mark
   fetched-row : (f : Folder P) (rs : List (Row P)) → Among f (folders-marked Fetched rs) → Among (Arrival f Fetched) rs

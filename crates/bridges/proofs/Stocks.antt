@@ -2,12 +2,15 @@
 use mathlib.Core.Path.{_≡_, refl, sym, ap, _∙_}
 use mathlib.Core.Bool.{Bool, true, false, cond}
 use mathlib.Core.List.{List, [], _∷_, _++_}
-use Prim.Native.Nat.{ℕ, zero, suc, _+_, _-_, _≤_}
+use Prim.Native.Nat.{ℕ, zero, suc, _+_, _-_, _≤_, _<_}
 use native.Mathlib.Omega.{arith}
+use lib.Dec.{ltb, eqb}
 use lib.ListN.{length, drop, length-map, length-append}
 use Rattle.std.specs.declared.option.Option.{Option}
 use Rattle.std.specs.declared.option.Option.the-variants.{Some, None}
-use Rattle.std.proofs.shelf.Tests.{lt-leb, lt-ltb, le-ltb, eq-eqb, ne-eqb}
+use Rattle.std.specs.Options.{mapped}
+use Rattle.std.specs.shelf.Maps.{nth}
+use Rattle.std.proofs.shelf.Tests.{eqb-false, lt-leb, lt-ltb, le-ltb, eq-eqb, ne-eqb}
 use Rattle.journal.specs.declared.folder.Folder.{Folder}
 use Rattle.journal.specs.declared.entry.Entry.{Entry}
 use Rattle.journal.specs.declared.entry.Entry.the-variants.{Arrival, Taking}
@@ -46,6 +49,14 @@ module _ {P : Type 0} where
       let t : entries rs ≡ xs ++ ys = cc in
       rw (lt-ltb (stamp-of (entry-of a)) s (omega (arith, ap stamp-of h, o .0))) (let ih = earlier-parts s xs ys rs t (o .1) r in omega arith)
 
+  pub earlier-within : (rs : List (Row P)) (s : ℕ) → earlier rs s ≤ length rs
+  earlier-within [] s = omega arith
+  earlier-within (x ∷ rs) s = go (ltb (stamp-of (entry-of x)) s) (earlier-within rs s)
+    where
+      go : (b : Bool) → earlier rs s ≤ length rs → cond b (1 + earlier rs s) (earlier rs s) ≤ suc (length rs)
+      go true ih = omega arith
+      go false ih = omega arith
+
   -- the stamp of the row at a place, from the entries that follow the place
   pub stamp-at : (i : ℕ) (rs : List (Row P)) (e : Entry P) (es : List (Entry P)) → drop i (entries rs) ≡ e ∷ es → stamp-before rs (suc i) ≡ Some (stamp-of e)
   stamp-at i [] e es h = absurd (let z : _≡_ {A = ℕ} 0 1 = cc (lib.Seq.drop-nil {A = Entry P} i) in omega arith)
@@ -60,6 +71,55 @@ least-after test (suc n) j k h = go (test j) h (least-after test n (suc j) k)
     go : (b : Bool) → cond b (Some j) (least-from test (suc j) n) ≡ Some k → (least-from test (suc j) n ≡ Some k → suc j ≤ k) → j ≤ k
     go true e ih = let same : j ≡ k = cc in omega arith
     go false e ih = omega (arith, ih e)
+
+-- nor is it beyond where the search ended
+least-before : (test : ℕ → Bool) (n j k : ℕ) → least-from test j n ≡ Some k → k < j + n
+least-before test zero j k h = absurd (let z : _≡_ {A = ℕ} 0 1 = cc in omega arith)
+least-before test (suc n) j k h = go (test j) h (least-before test n (suc j) k)
+  where
+    go : (b : Bool) → cond b (Some j) (least-from test (suc j) n) ≡ Some k → (least-from test (suc j) n ≡ Some k → k < suc j + n) → k < j + suc n
+    go true e ih = let same : j ≡ k = cc in omega arith
+    go false e ih = omega (arith, ih e)
+
+at-place : {A : Type 0} (i : ℕ) (xs : List A) → i < length xs → (x : A) × (nth xs i ≡ Some x)
+at-place i [] lt = absurd (omega arith)
+at-place zero (x ∷ xs) lt = (x, refl)
+at-place (suc i) (x ∷ xs) lt = at-place i xs (omega arith)
+
+module _ {P : Type 0} where
+  -- a low place that is found, after the first, has a row before it
+  low-has-row : (rs : List (Row P)) (p j : ℕ) → first-low-stock rs p ≡ Some j → 1 ≤ j → stamp-before rs j ≡ None → ⊥
+  low-has-row rs p zero e le h = omega arith
+  low-has-row rs p (suc i) e le h =
+      let q = place-in rs p in
+      let lt : suc i < q + suc (length rs - q) = least-before (low (stock rs)) (suc (length rs - q)) q (suc i) e in
+      let got = at-place i rs (omega arith) in
+      never-served (stamp-of (entry-of (got .0))) (ap (mapped (λ (r : Row P). stamp-of (entry-of r))) (sym (got .1)) ∙ h)
+
+  pub entered-by-low : (rs : List (Row P)) (s : ℕ) → unserved-entered rs s ≡ None → first-low-stock rs (earlier rs s) ≡ None
+  entered-by-low rs s h = go (first-low-stock rs (earlier rs s)) refl h
+    where
+      go : (o : Option ℕ) → first-low-stock rs (earlier rs s) ≡ o → new-or-before-low rs (earlier rs s) s o ≡ None → o ≡ None
+      go None e k = refl
+      go (Some j) e k = here (eqb j (earlier rs s)) refl k
+        where
+          here : (b : Bool) → eqb j (earlier rs s) ≡ b → cond b (Some s) (stamp-before rs j) ≡ None → Some j ≡ None
+          here true q z = absurd (never-served s z)
+          here false q z =
+              let after : place-in rs (earlier rs s) ≤ j = least-after (low (stock rs)) (suc (length rs - place-in rs (earlier rs s))) (place-in rs (earlier rs s)) j e in
+              absurd (low-has-row rs (earlier rs s) j e (positive after (eqb-false j (earlier rs s) q)) z)
+            where
+              positive : place-in rs (earlier rs s) ≤ j → (j ≡ earlier rs s → ⊥) → 1 ≤ j
+              positive le ne = omega (arith, earlier-within rs s)
+
+  pub struck-by-low : (rs : List (Row P)) (s : ℕ) → 1 ≤ length rs → unserved-struck rs s ≡ None → first-low-stock rs (suc (earlier rs s)) ≡ None
+  struck-by-low rs s some h = go (first-low-stock rs (suc (earlier rs s))) refl h
+    where
+      go : (o : Option ℕ) → first-low-stock rs (suc (earlier rs s)) ≡ o → before-low rs o ≡ None → o ≡ None
+      go None e k = refl
+      go (Some j) e k =
+          let after : place-in rs (suc (earlier rs s)) ≤ j = least-after (low (stock rs)) (suc (length rs - place-in rs (suc (earlier rs s)))) (place-in rs (suc (earlier rs s))) j e in
+          absurd (low-has-row rs (suc (earlier rs s)) j e (omega arith) k)
 
 module _ {P : Type 0} (nb : P → P → Bool) where
   first-empty-counted : (es : List (Entry P)) (rack : List (Folder P)) → first-empty (fetches nb rack es) ≡ unserved (length rack) es
