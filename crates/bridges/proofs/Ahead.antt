@@ -1,9 +1,7 @@
 -- Folders of different stamps stand in a strict total order.
 use mathlib.Core.Path.{_≡_}
 use mathlib.Core.Bool.{Bool, true, false}
-use Prim.Native.Nat.{ℕ}
 use native.Mathlib.Omega.{arith}
-use lib.Dec.{ltb}
 use Rattle.std.proofs.shelf.Ways.{tells}
 use Rattle.journal.specs.declared.folder.Folder.{Folder}
 use Rattle.journal.specs.Folders.{ahead}

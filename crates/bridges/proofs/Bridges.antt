@@ -1,21 +1,21 @@
 -- Bridges: the places where nobody on the rack will still be fetched.
-use mathlib.Core.Path.{_≡_, refl, sym, ap, _∙_}
-use mathlib.Core.Bool.{Bool, true, false, cond, not}
-use mathlib.Core.List.{List, [], _∷_, map, List·Memᴰ, List·Memᴰ·head, List·Memᴰ·tail, List·Memᴰ·cases-cons, List·Memᴰ·not-nil}
+use mathlib.Core.Path.{_≡_, refl, ap, _∙_}
+use mathlib.Core.Bool.{Bool, true, false, not}
+use mathlib.Core.List.{List, [], _∷_, List·Memᴰ, List·Memᴰ·head, List·Memᴰ·tail, List·Memᴰ·cases-cons, List·Memᴰ·not-nil}
 use mathlib.Core.Logic.{_⊎_, inl, inr}
-use Prim.Native.Nat.{ℕ, zero, suc, _≤_, _<_}
+use Prim.Native.Nat.{ℕ, _≤_}
 use native.Mathlib.Omega.{arith}
-use lib.ListN.{length, take, drop}
-use lib.IntN.{ℤ, pos, negsuc, _+ℤ_}
-use lib.Signed.{leZ, _≤ℤ_}
-use Rattle.std.proofs.shelf.Tests.{both-ways, not-true, not-false, not-from-true, not-from-false}
+use lib.ListN.{drop}
+use lib.IntN.{pos}
+use lib.Signed.{leZ}
+use Rattle.std.proofs.shelf.Tests.{both-ways, not-true, not-false, not-from-true}
 use Rattle.std.proofs.shelf.Signed.{ints}
 use Rattle.journal.specs.declared.folder.Folder.{Folder}
 use Rattle.journal.specs.declared.entry.Entry.{Entry}
 use Rattle.journal.specs.declared.row.Row.{Row}
 use Rattle.journal.specs.Folders.{has-stamp}
 use Rattle.journal.specs.Replay.{replay, waiting, sound, by-stamp}
-use Rattle.journal.specs.Rows.{entries, stock, balance, Bridge, marked, Marks-agree}
+use Rattle.journal.specs.Rows.{entries, balance, marked, Marks-agree}
 use Rattle.journal.specs.Searches.{low}
 use Rattle.bridges.specs.Racks.{Rising, Served, gone}
 use Rattle.bridges.specs.Counting.{count, rack-at, will-be-fetched, Counting}
@@ -105,13 +105,15 @@ module _ {P : Type 0} (nb : P → P → Bool) (L : Lawful nb) where
 
   pub counting : Counting nb
   counting = record {
-      stock-counts = λ rs s j. stock-at nb rs (served-sound _ s) j;
-      balance-counts = λ rs b s a j. balance-agrees rs b s a j ∙ ap pos (count-alike _ _ (rack-at nb (entries rs) j) (λ f m. missing-fetched nb (entries rs) j f (rising-journal (entries rs) b) m));
-      never-negative = λ rs b s a j. let e = balance-agrees rs b s a j in omega (arith, ints);
-      bridge-where-none = λ rs b s a j le. (
-        (λ br f m. let es = entries rs in let r = rising-journal es b in let e = balance-agrees rs b s a j in
+    stock-counts = λ rs s j. stock-at nb rs (served-sound _ s) j;
+    balance-counts = λ rs b s a j. balance-agrees rs b s a j ∙ ap pos (count-alike _ _ (rack-at nb (entries rs) j) (λ f m. missing-fetched nb (entries rs) j f (rising-journal (entries rs) b) m));
+    never-negative = λ rs b s a j. let e = balance-agrees rs b s a j in omega (arith, ints);
+    bridge-where-none = λ rs b s a j le. (
+      (λ br f m. let es = entries rs in let r = rising-journal es b in let e = balance-agrees rs b s a j in
           safe-waits es j f r (safe-from-none nb es j r (let z = br .even in omega (arith, ints))) (among f _ m)),
-        (λ h. record { place = le; even = balance-agrees rs b s a j ∙ ap pos (none-counted (missing nb (waiting nb (entries rs))) (rack-at nb (entries rs) j) (λ f m. not-from-true _ (among-has-stamp f (waiting nb (entries rs)) (among f _ (h f (member f _ m)))))) })) }
+      (λ h. record { place = le; even = balance-agrees rs b s a j ∙ ap pos (none-counted (missing nb (waiting nb (entries rs))) (rack-at nb (entries rs) j) (λ f m. not-from-true _ (among-has-stamp f (waiting nb (entries rs)) (among f _ (h f (member f _ m)))))) }),
+    );
+  }
     where
       safe-waits : (es : List (Entry P)) (j : ℕ) (f : Folder P) → Rising 0 es → Safe-at nb es j → Among f (rack-at nb es j) → List·Memᴰ f (waiting nb es)
       safe-waits es j f r safe m = go (settled nb es j f r m)

@@ -1,16 +1,16 @@
 -- A book's replies by its rows are the defined ones.
-use mathlib.Core.Path.{_≡_, refl, sym, ap, subst, subst₂, _∙_}
+use mathlib.Core.Path.{_≡_, refl, sym, ap, subst, subst₂}
 use mathlib.Core.Bool.{Bool, true, false, cond}
 use mathlib.Core.List.{List, [], _∷_, map}
-use mathlib.Core.Logic.{_⊎_, inl, inr}
-use Prim.Native.Nat.{ℕ, zero, suc, _≤_, _<_}
+use mathlib.Core.Logic.{inl, inr}
+use Prim.Native.Nat.{ℕ, suc}
 use native.Mathlib.Omega.{arith}
-use lib.Dec.{eqb, leb}
+use lib.Dec.{eqb}
 use lib.ListN.{length}
 use Rattle.std.specs.declared.option.Option.{Option}
 use Rattle.std.specs.declared.option.Option.the-variants.{Some, None}
 use Rattle.std.specs.shelf.Maps.{nth}
-use Rattle.std.proofs.shelf.Tests.{both-ways, eq-eqb, ne-eqb, cond-true, cond-false}
+use Rattle.std.proofs.shelf.Tests.{eq-eqb, ne-eqb, cond-true, cond-false}
 use Rattle.orders.specs.Refusal.{Told, told, refused}
 use Rattle.journal.specs.declared.folder.Folder.{Folder}
 use Rattle.journal.specs.declared.entry.Entry.{Entry}
@@ -24,16 +24,16 @@ use Rattle.journal.specs.declared.call.Call.the-variants as call
 use Rattle.journal.specs.declared.call.Standing.{Standing}
 use Rattle.journal.specs.declared.call.Standing.the-variants as standing
 use Rattle.journal.specs.Folders.{has-stamp}
-use Rattle.journal.specs.Replay.{stamp-of, waiting, sound, dated, entered, struck, first-unserved, stood}
-use Rattle.journal.specs.Rows.{entry-of, entries, row-of, marked}
+use Rattle.journal.specs.Replay.{stamp-of, waiting, dated, entered, struck, first-unserved}
+use Rattle.journal.specs.Rows.{entry-of, entries, row-of}
 use Rattle.journal.specs.Searches.{earlier}
 use Rattle.journal.specs.Movers.{entry-at, arrival-mover, taking-mover}
-use Rattle.journal.specs.Entering.{stamp-in-range, number-in-range, enter-rule}
-use Rattle.journal.specs.Calls.{Answer, joined, left, counted, waits-at, standing-is, and-so, or-as-before, if-served, moved, as-meant, sound-rule, revoking-rule, correction, revoke-moves, standing-of, defined-reply, later-journal}
+use Rattle.journal.specs.Entering.{stamp-in-range, enter-rule}
+use Rattle.journal.specs.Calls.{joined, left, counted, waits-at, standing-is, and-so, or-as-before, if-served, moved, as-meant, sound-rule, revoke-moves, standing-of, defined-reply, later-journal}
 use Rattle.bridges.specs.Racks.{Rising}
-use Rattle.bridges.specs.Soundness.{unserved-entered, unserved-struck}
-use Rattle.bridges.specs.Rules.{arrival-rule, taking-rule, fetched-revoked-rule, taking-revoked-rule, Kept}
-use Rattle.bridges.specs.Marks.{arrival-rows, taking-rows, waiting-revoked-rows, fetched-revoked-rows, taking-revoked-rows, Carries}
+use Rattle.bridges.specs.Soundness.{unserved-entered}
+use Rattle.bridges.specs.Rules.{arrival-rule, taking-rule, fetched-revoked-rule, Kept}
+use Rattle.bridges.specs.Marks.{arrival-rows, taking-rows, fetched-revoked-rows, Carries}
 use Rattle.bridges.specs.ByRows.{row-dated, unless-unserved, standing-by, revoke-reply, revoke-rows, reply-by-rows, rows-after, Answers-by-rows}
 use Rattle.bridges.proofs.Ahead.{Lawful}
 use Rattle.bridges.proofs.Members.{Among}
@@ -42,7 +42,7 @@ use Rattle.bridges.proofs.Soundness.{soundness-by-stock}
 use Rattle.bridges.proofs.FindMovers.{bridges-find-movers}
 use Rattle.bridges.proofs.Marks.{marks-kept}
 use Rattle.bridges.proofs.PlaceForms.{row-later, dated-row, row-at-place}
-use Rattle.bridges.proofs.Calls.{Ruled, enter-ruled}
+use Rattle.bridges.proofs.Calls.{Ruled, Enterable, enter-ruled}
 
 waiting-mark : (b : Bool) → Waiting ≡ cond b Waiting Fetched → b ≡ true
 waiting-mark true e = refl
@@ -95,14 +95,14 @@ module _ {P : Type 0} (nb : P → P → Bool) (canonical : P → P) (L : Lawful 
       Goal g o = (and-so o (λ es. told (joined (arrival-rule nb rs g))) ≡ and-so (and-so o (sound-rule nb canonical)) (λ corrected. told (joined (arrival-mover nb (entries rs) g))))
           × Carries nb (or-as-before (and-so o (λ es. told (arrival-rows nb rs g))) rs) (or-as-before (and-so o (sound-rule nb canonical)) (entries rs))
 
-      go : (o : Told (List (Entry P))) → Ruled o (entered (entry.Arrival (as-meant nb canonical f)) (entries rs)) (dated (f .stamp) (entries rs) ≡ false) → Goal (as-meant nb canonical f) o
+      go : (o : Told (List (Entry P))) → Ruled o (entered (entry.Arrival (as-meant nb canonical f)) (entries rs)) (Enterable capacity (entries rs) (entry.Arrival (as-meant nb canonical f))) → Goal (as-meant nb canonical f) o
       go o (inl q) =
           let g = as-meant nb canonical f in
           let es′ = entered (entry.Arrival g) (entries rs) in
-          let served = served-sound _ (soundness-by-stock nb L .arrival-entered (entries rs) g (k .order) (k .served) (q .1)) in
+          let served = served-sound _ (soundness-by-stock nb L .arrival-entered (entries rs) g (k .order) (k .served) (q .1 .free)) in
           subst (Goal g) (sym (q .0))
           (subst (λ u. (told (joined (arrival-rule nb rs g)) ≡ and-so (if-served es′ u) (λ corrected. told (joined (arrival-mover nb (entries rs) g)))) × Carries nb (arrival-rows nb rs g) (or-as-before (if-served es′ u) (entries rs))) (sym served)
-            (ap (λ m. told (joined m)) (bridges-find-movers nb L .arrival rs g k (q .1)), marks-kept nb L .arrival rs g k (q .1)))
+          (ap (λ m. told (joined m)) (bridges-find-movers nb L .arrival rs g k (q .1 .free)), marks-kept nb L .arrival rs g k (q .1 .free)))
       go o (inr q) = subst (Goal (as-meant nb canonical f)) (sym (q .2)) (refl, unchanged rs k)
 
   taking-by-rows : (capacity spare : ℕ) (rs : List (Row P)) (ws : List (Folder P)) (s : ℕ) → Kept nb rs → Right-by-rows capacity spare rs ws (call.Taking s)
@@ -120,10 +120,10 @@ module _ {P : Type 0} (nb : P → P → Bool) (canonical : P → P) (L : Lawful 
       by d None e = let h = sound-served _ e in (ap (moved left s) (bridges-find-movers nb L .taking rs s k d h), marks-kept nb L .taking rs s k d h)
       by d (Some t) e = (refl, unchanged rs k)
 
-      go : (o : Told (List (Entry P))) → Ruled o (entered (entry.Taking s) (entries rs)) (dated s (entries rs) ≡ false) → Goal o (unserved-entered rs s)
+      go : (o : Told (List (Entry P))) → Ruled o (entered (entry.Taking s) (entries rs)) (Enterable capacity (entries rs) (entry.Taking s)) → Goal o (unserved-entered rs s)
       go o (inl q) =
-          let u = soundness-by-stock nb L .taking-entered rs s (k .order) (k .served) (q .1) in
-          let both = by (q .1) (first-unserved nb (entered (entry.Taking s) (entries rs))) refl in
+          let u = soundness-by-stock nb L .taking-entered rs s (k .order) (k .served) (q .1 .free) in
+          let both = by (q .1 .free) (first-unserved nb (entered (entry.Taking s) (entries rs))) refl in
           subst (λ x. Goal x (unserved-entered rs s)) (sym (q .0)) (subst (Goal (told (entered (entry.Taking s) (entries rs)))) u both)
       go o (inr q) = subst (λ x. Goal x (unserved-entered rs s)) (sym (q .2)) (refl, unchanged rs k)
 
@@ -144,7 +144,7 @@ module _ {P : Type 0} (nb : P → P → Bool) (canonical : P → P) (L : Lawful 
       -- the row of a fetched arrival, by the stocks after it
       by-stock : (f : Folder P) → entry-at s (entries rs) ≡ Some (entry.Arrival f) → has-stamp s (waiting nb (entries rs)) ≡ false → (u : Option ℕ) → first-unserved nb (struck s (entries rs)) ≡ u
           → (unless-unserved u (moved left s (fetched-revoked-rule nb rs s)) ≡ and-so (if-served (struck s (entries rs)) u) (λ corrected. told (left (arrival-mover nb corrected f))))
-            × Carries nb (or-as-before (unless-unserved u (told (fetched-revoked-rows nb rs s))) rs) (or-as-before (if-served (struck s (entries rs)) u) (entries rs))
+          × Carries nb (or-as-before (unless-unserved u (told (fetched-revoked-rows nb rs s))) rs) (or-as-before (if-served (struck s (entries rs)) u) (entries rs))
       by-stock f e w None q = let h = sound-served _ q in (ap (moved left s) (bridges-find-movers nb L .fetched-revoked rs s f k e w h), marks-kept nb L .fetched-revoked rs s f k e w h)
       by-stock f e w (Some t) q = (refl, unchanged rs k)
 
@@ -158,7 +158,7 @@ module _ {P : Type 0} (nb : P → P → Bool) (canonical : P → P) (L : Lawful 
           let w : has-stamp s (waiting nb (entries rs)) ≡ false = rw (stamp-is f e) at (fetched-mark _ (mark-is f Fetched m)) in
           let o = first-unserved nb (struck s (entries rs)) in
           subst (λ u. (unless-unserved u (moved left s (fetched-revoked-rule nb rs s)) ≡ and-so (if-served (struck s (entries rs)) o) (λ corrected. told (left (arrival-mover nb corrected f))))
-            × Carries nb (or-as-before (unless-unserved u (told (fetched-revoked-rows nb rs s))) rs) (or-as-before (if-served (struck s (entries rs)) o) (entries rs)))
+          × Carries nb (or-as-before (unless-unserved u (told (fetched-revoked-rows nb rs s))) rs) (or-as-before (if-served (struck s (entries rs)) o) (entries rs)))
           (soundness-by-stock nb L .arrival-struck rs s f (k .order) (k .served) e) (by-stock f e w o refl)
       by-row (Taking t) m e =
           let served = served-sound _ (soundness-by-stock nb L .taking-struck (entries rs) s t (k .order) (k .served) e) in
@@ -210,5 +210,6 @@ module _ {P : Type 0} (nb : P → P → Bool) (canonical : P → P) (L : Lawful 
 
   pub answers-by-rows : Answers-by-rows nb canonical
   answers-by-rows = record {
-      replied = λ capacity spare rs ws c k e. by-rows capacity spare rs ws c k e .0;
-      carried = λ capacity rs c k. by-rows capacity 0 rs (waiting nb (entries rs)) c k refl .1 }
+    replied = λ capacity spare rs ws c k e. by-rows capacity spare rs ws c k e .0;
+    carried = λ capacity rs c k. by-rows capacity 0 rs (waiting nb (entries rs)) c k refl .1;
+  }

@@ -1,33 +1,30 @@
 -- The law over lists of calls, from the mover's law at each.
 use mathlib.Core.Path.{_≡_, refl, sym, ap, ap₂, subst, _∙_}
-use mathlib.Core.Bool.{Bool, true, false, cond, not, _||_}
+use mathlib.Core.Bool.{Bool, true, false, cond, _||_}
 use mathlib.Core.List.{List, [], _∷_}
 use mathlib.Core.Logic.{_⊎_, inl, inr, _↔_}
-use Prim.Native.Nat.{ℕ, zero, suc, _+_, _≤_, _<_}
+use Prim.Native.Nat.{ℕ, suc, _+_, _≤_, _<_}
 use native.Mathlib.Omega.{arith}
 use lib.Dec.{leb, ltb, eqb}
 use lib.ListN.{length}
 use Rattle.std.specs.declared.option.Option.{Option}
 use Rattle.std.specs.declared.option.Option.the-variants.{Some, None}
-use Rattle.std.proofs.shelf.Tests.{eq-eqb, both-ways}
+use Rattle.std.proofs.shelf.Tests.{eq-eqb, both-ways, ltb-true}
 use Rattle.orders.specs.Refusal.{Told, told, refused}
 use Rattle.journal.specs.declared.folder.Folder.{Folder}
 use Rattle.journal.specs.declared.entry.Entry.{Entry}
 use Rattle.journal.specs.declared.entry.Entry.the-variants.{Arrival, Taking}
 use Rattle.journal.specs.declared.call.Call.{Call}
 use Rattle.journal.specs.declared.call.Call.the-variants as call
-use Rattle.journal.specs.Folders.{placed}
-use Rattle.journal.specs.Replay.{stamp-of, waiting, sound, by-stamp, dated, entered, struck, first-unserved, stood}
+use Rattle.journal.specs.Replay.{stamp-of, waiting, sound, dated, entered, struck, first-unserved, stood}
 use Rattle.journal.specs.Movers.{entry-at, arrival-mover, taking-mover}
 use Rattle.journal.specs.Entering.{stamp-in-range, number-in-range, enter-rule}
 use Rattle.journal.specs.Calls.{Answer, joined, left, counted, waits-at, standing-is, stood-there, and-so, or-as-before, if-served, moved, as-meant, sound-rule, entering-rule, revoking-rule, correction, revoke-moves, defined-reply, later-journal}
-use Rattle.bridges.specs.Racks.{Rising}
 use Rattle.bridges.specs.Counting.{count}
-use Rattle.bridges.specs.Movers.{One-apart}
 use Rattle.bridges.specs.Law.{Asked, joined-by, left-by, total-of, any, Right, replies, journal-after, Moves-as, Each-moves, Law-of-calls}
 use Rattle.bridges.proofs.Ahead.{Lawful}
 use Rattle.bridges.proofs.Counts.{stamped, count-placed, once}
-use Rattle.bridges.proofs.Journals.{Corrected, entering, striking, rising-journal, by-stamp-rising, sound-served}
+use Rattle.bridges.proofs.Journals.{entering, striking, rising-journal, by-stamp-rising, sound-served}
 use Rattle.bridges.proofs.Movers.{movers-law}
 use Rattle.bridges.proofs.Marks.{rising-lacking, rising-having}
 
@@ -45,16 +42,23 @@ module _ {P : Type 0} where
   abbrev pub Ruled : Told (List (Entry P)) → List (Entry P) → Type 0 → Type 0
   Ruled o es reason = ((o ≡ told es) × reason) ⊎ ((n : ℕ) × (vs : List ℕ) × (o ≡ refused n vs))
 
-  pub enter-ruled : (capacity : ℕ) (es : List (Entry P)) (e : Entry P) → Ruled (enter-rule capacity es e) (entered e es) (dated (stamp-of e) es ≡ false)
-  enter-ruled capacity es e = go (stamp-in-range (stamp-of e)) (number-in-range e) (dated (stamp-of e) es) refl (ltb (length es) capacity)
+  -- why an entry may be entered
+  pub record Enterable (capacity : ℕ) (es : List (Entry P)) (e : Entry P) : Type 0 where
+    pub stamp : stamp-in-range (stamp-of e) ≡ true
+    pub number : number-in-range e ≡ true
+    pub free : dated (stamp-of e) es ≡ false
+    pub room : length es < capacity
+
+  pub enter-ruled : (capacity : ℕ) (es : List (Entry P)) (e : Entry P) → Ruled (enter-rule capacity es e) (entered e es) (Enterable capacity es e)
+  enter-ruled capacity es e = go (stamp-in-range (stamp-of e)) refl (number-in-range e) refl (dated (stamp-of e) es) refl (ltb (length es) capacity) refl
     where
-      go : (a b c : Bool) → dated (stamp-of e) es ≡ c → (d : Bool)
-          → Ruled (cond a (cond b (cond c (refused 4 []) (cond d (told (entered e es)) (refused 6 []))) (refused 2 [])) (refused 1 [])) (entered e es) (dated (stamp-of e) es ≡ false)
-      go false b c q d = inr (1, [], refl)
-      go true false c q d = inr (2, [], refl)
-      go true true true q d = inr (4, [], refl)
-      go true true false q false = inr (6, [], refl)
-      go true true false q true = inl (refl, q)
+      go : (a : Bool) → stamp-in-range (stamp-of e) ≡ a → (b : Bool) → number-in-range e ≡ b → (c : Bool) → dated (stamp-of e) es ≡ c → (d : Bool) → ltb (length es) capacity ≡ d
+          → Ruled (cond a (cond b (cond c (refused 4 []) (cond d (told (entered e es)) (refused 6 []))) (refused 2 [])) (refused 1 [])) (entered e es) (Enterable capacity es e)
+      go false p b q c r d s = inr (1, [], refl)
+      go true p false q c r d s = inr (2, [], refl)
+      go true p true q true r d s = inr (4, [], refl)
+      go true p true q false r false s = inr (6, [], refl)
+      go true p true q false r true s = inl (refl, record { stamp = p; number = q; free = r; room = ltb-true _ _ s })
 
 module _ {P : Type 0} (nb : P → P → Bool) (canonical : P → P) where
   sound-ruled : (es : List (Entry P)) → Ruled (sound-rule nb canonical es) es (sound nb es ≡ true)
@@ -64,20 +68,20 @@ module _ {P : Type 0} (nb : P → P → Bool) (canonical : P → P) where
       go None e = inl (refl, sound-served _ e)
       go (Some s) e = inr (7, s ∷ [], refl)
 
-  entering-ruled : (capacity : ℕ) (es : List (Entry P)) (e : Entry P) → Ruled (entering-rule nb canonical capacity es e) (entered e es) ((dated (stamp-of e) es ≡ false) × (sound nb (entered e es) ≡ true))
+  pub entering-ruled : (capacity : ℕ) (es : List (Entry P)) (e : Entry P) → Ruled (entering-rule nb canonical capacity es e) (entered e es) (Enterable capacity es e × (sound nb (entered e es) ≡ true))
   entering-ruled capacity es e = go (enter-rule capacity es e) (enter-ruled capacity es e)
     where
-      last : Ruled (sound-rule nb canonical (entered e es)) (entered e es) (sound nb (entered e es) ≡ true) → dated (stamp-of e) es ≡ false
-          → Ruled (sound-rule nb canonical (entered e es)) (entered e es) ((dated (stamp-of e) es ≡ false) × (sound nb (entered e es) ≡ true))
+      last : Ruled (sound-rule nb canonical (entered e es)) (entered e es) (sound nb (entered e es) ≡ true) → Enterable capacity es e
+          → Ruled (sound-rule nb canonical (entered e es)) (entered e es) (Enterable capacity es e × (sound nb (entered e es) ≡ true))
       last (inl k) d = inl (k .0, (d, k .1))
       last (inr k) d = inr k
 
-      go : (o : Told (List (Entry P))) → Ruled o (entered e es) (dated (stamp-of e) es ≡ false)
-          → Ruled (and-so o (sound-rule nb canonical)) (entered e es) ((dated (stamp-of e) es ≡ false) × (sound nb (entered e es) ≡ true))
-      go o (inl k) = subst (λ x. Ruled (and-so x (sound-rule nb canonical)) (entered e es) ((dated (stamp-of e) es ≡ false) × (sound nb (entered e es) ≡ true))) (sym (k .0)) (last (sound-ruled (entered e es)) (k .1))
+      go : (o : Told (List (Entry P))) → Ruled o (entered e es) (Enterable capacity es e)
+          → Ruled (and-so o (sound-rule nb canonical)) (entered e es) (Enterable capacity es e × (sound nb (entered e es) ≡ true))
+      go o (inl k) = subst (λ x. Ruled (and-so x (sound-rule nb canonical)) (entered e es) (Enterable capacity es e × (sound nb (entered e es) ≡ true))) (sym (k .0)) (last (sound-ruled (entered e es)) (k .1))
       go o (inr k) = inr (k .0, k .1, ap (λ x. and-so x (sound-rule nb canonical)) (k .2))
 
-  revoking-ruled : (es : List (Entry P)) (s : ℕ) → Ruled (revoking-rule nb canonical es s) (struck s es) ((dated s es ≡ true) × (sound nb (struck s es) ≡ true))
+  pub revoking-ruled : (es : List (Entry P)) (s : ℕ) → Ruled (revoking-rule nb canonical es s) (struck s es) ((dated s es ≡ true) × (sound nb (struck s es) ≡ true))
   revoking-ruled es s = go (stamp-in-range s) (dated s es) refl (sound-ruled (struck s es))
     where
       last : Ruled (sound-rule nb canonical (struck s es)) (struck s es) (sound nb (struck s es) ≡ true) → dated s es ≡ true
@@ -102,24 +106,25 @@ module _ {P : Type 0} (nb : P → P → Bool) (canonical : P → P) where
 
 module _ {P : Type 0} (nb : P → P → Bool) (canonical : P → P) (L : Lawful nb) where
   -- one call
-  step : (capacity spare : ℕ) (es : List (Entry P)) (c : Call P) → Right nb canonical es
+  pub step : (capacity spare : ℕ) (es : List (Entry P)) (c : Call P) → Right nb canonical es
       → Right nb canonical (later-journal nb canonical capacity es c) × Moves-as nb canonical (defined-reply nb canonical capacity spare es c) (waiting nb es) (waiting nb (later-journal nb canonical capacity es c))
   step capacity spare es (call.Arrival f) r =
       let g = as-meant nb canonical f in
       by-rule nb canonical (correction nb canonical capacity es (call.Arrival f)) es (entered (Arrival g) es) (λ corrected. told (joined (arrival-mover nb es g))) _ (entering-ruled nb canonical capacity es (Arrival g))
-      (λ why. let c = entering 0 (Arrival g) es (omega arith) (rising-journal es (r .order)) (why .0) in
-        (record { order = by-stamp-rising 0 _ (rising-having nb (Arrival g) es _ c); served = why .1 }, movers-law nb L .arrival-entered es g (r .order) (why .0) (r .served))) r
+      (λ why. let c = entering 0 (Arrival g) es (omega arith) (rising-journal es (r .order)) (why .0 .free) in
+      (record { order = by-stamp-rising 0 _ (rising-having nb (Arrival g) es _ c); served = why .1 }, movers-law nb L .arrival-entered es g (r .order) (why .0 .free) (r .served))) r
   step capacity spare es (call.Taking s) r =
       by-rule nb canonical (correction nb canonical capacity es (call.Taking s)) es (entered (Taking s) es) (λ corrected. moved left s (taking-mover nb corrected s)) _ (entering-ruled nb canonical capacity es (Taking s))
-      (λ why. let c = entering 0 (Taking s) es (omega arith) (rising-journal es (r .order)) (why .0) in
-        let got = movers-law nb L .taking-entered es s (r .order) (why .0) (why .1) in
-        (record { order = by-stamp-rising 0 _ (rising-having nb (Taking s) es _ c); served = why .1 },
-         subst (λ o. Moves-as nb canonical (moved left s o) (waiting nb es) (waiting nb (entered (Taking s) es))) (sym (got .1)) (got .2))) r
+      (λ why. let c = entering 0 (Taking s) es (omega arith) (rising-journal es (r .order)) (why .0 .free) in
+      let got = movers-law nb L .taking-entered es s (r .order) (why .0 .free) (why .1) in (
+        record { order = by-stamp-rising 0 _ (rising-having nb (Taking s) es _ c); served = why .1 },
+        subst (λ o. Moves-as nb canonical (moved left s o) (waiting nb es) (waiting nb (entered (Taking s) es))) (sym (got .1)) (got .2),
+      )) r
   step capacity spare es (call.Revoke s) r =
       by-rule nb canonical (correction nb canonical capacity es (call.Revoke s)) es (struck s es) (λ corrected. revoke-moves nb canonical es corrected s (entry-at s es)) _ (revoking-ruled nb canonical es s)
       (λ why. let got = dated-entry s es (why .0) in
-        let c = striking 0 s (got .0) es (rising-journal es (r .order)) (got .1) .2 in
-        (record { order = by-stamp-rising 0 _ (rising-lacking nb (got .0) (struck s es) es c); served = why .1 }, at (got .0) (got .1) (why .1))) r
+      let c = striking 0 s (got .0) es (rising-journal es (r .order)) (got .1) .2 in
+      (record { order = by-stamp-rising 0 _ (rising-lacking nb (got .0) (struck s es) es c); served = why .1 }, at (got .0) (got .1) (why .1))) r
     where
       at : (e : Entry P) → entry-at s es ≡ Some e → sound nb (struck s es) ≡ true → Moves-as nb canonical (revoke-moves nb canonical es (struck s es) s (entry-at s es)) (waiting nb es) (waiting nb (struck s es))
       at (Arrival f) q v =
@@ -200,10 +205,10 @@ module _ {P : Type 0} (nb : P → P → Bool) (canonical : P → P) (L : Lawful 
 
   pub law-of-calls : Law-of-calls nb canonical
   law-of-calls = record {
-      named = run-moves;
-      alike = λ capacity capacity′ es es′ asked p q. (ap₂ (λ n l. replies nb canonical n l asked) p q, ap₂ (λ n l. journal-after nb canonical n l asked) p q);
-      counted-out = run-counted;
-      each-folder = λ capacity asked f is-f h.
+    named = run-moves;
+    alike = λ capacity capacity′ es es′ asked p q. (ap₂ (λ n l. replies nb canonical n l asked) p q, ap₂ (λ n l. journal-after nb canonical n l asked) p q);
+    counted-out = run-counted;
+    each-folder = λ capacity asked f is-f h.
         let start : Right nb canonical [] = record { order = refl; served = refl } in
         let end = journal-after nb canonical capacity [] asked in
         let r = run-right capacity [] asked start in
@@ -211,4 +216,5 @@ module _ {P : Type 0} (nb : P → P → Bool) (canonical : P → P) (L : Lawful 
         let at-most : count is-f (waiting nb end) ≤ 1 = omega (arith, counted-one f is-f h (waiting nb end), once nb (f .stamp) 0 end (rising-journal end (r .order))) in
         let now = counted-any is-f (waiting nb end) at-most in
         omega arith;
-      stays-right = run-right }
+    stays-right = run-right;
+  }

@@ -1,26 +1,24 @@
 -- Counting: what arrives stays on the rack or is fetched, and no two folders of a journal share a stamp.
 use mathlib.Core.Path.{_≡_, refl, sym, ap, _∙_}
-use mathlib.Core.Bool.{Bool, true, false, cond, not, _||_}
+use mathlib.Core.Bool.{Bool, true, false, cond, _||_}
 use mathlib.Core.List.{List, [], _∷_}
 use Prim.Native.Nat.{ℕ, suc, _+_, _≤_, _<_}
 use native.Mathlib.Omega.{arith}
 use lib.Dec.{eqb, ltb}
 use lib.ListN.{length}
 use Rattle.std.proofs.shelf.Tests.{true≢false, ne-eqb, eqb-true, eq-eqb, lt-ltb, or-parts, or-from, or-left, or-right, and-right, cond-true, cond-false}
-use Rattle.std.proofs.shelf.Ways.{tells}
 use Rattle.journal.specs.declared.folder.Folder.{Folder}
 use Rattle.journal.specs.declared.entry.Entry.{Entry}
 use Rattle.journal.specs.declared.entry.Entry.the-variants.{Arrival, Taking}
 use Rattle.journal.specs.Folders.{ahead, placed, has-stamp}
 use Rattle.journal.specs.Replay.{replay, waiting, fetched}
 use Rattle.orders.specs.Order.{tie}
-use Rattle.orders.specs.Refusal.{Told, told}
+use Rattle.orders.specs.Refusal.{told}
 use Rattle.journal.specs.Racks.{same-key, holds, taken-out}
 use Rattle.bridges.specs.Racks.{Rising, gone}
 use Rattle.bridges.specs.Movers.{One-apart, Rack-follows}
 use Rattle.bridges.specs.Counting.{count}
 use Rattle.bridges.proofs.Ahead.{Lawful}
-use Rattle.bridges.proofs.Racks.{rising-earlier}
 use Rattle.bridges.proofs.Journals.{order-replay}
 
 -- the folders of a journal's arrivals
@@ -113,9 +111,10 @@ module _ {P : Type 0} (nb : P → P → Bool) (L : Lawful nb) where
       go false k ih = cond-false (same-key nb (m .priority) (m .stamp) g) _ _ k ∙ ap (λ l. g ∷ l) ih
 
   pub rack-follows : Rack-follows nb
-  rack-follows m fewer more a =
-      (cond-true _ _ _ (ap (holds nb (m .priority) (m .stamp)) (a .joined) ∙ holds-placed m fewer) ∙ ap told (sym (a .left)),
-       λ capacity lt. cond-false (holds nb (m .priority) (m .stamp) fewer) _ _ (holds-none m fewer (a .new)) ∙ cond-true (ltb (length fewer) capacity) _ _ (lt-ltb _ _ lt) ∙ ap told (sym (a .joined)))
+  rack-follows m fewer more a = (
+    cond-true _ _ _ (ap (holds nb (m .priority) (m .stamp)) (a .joined) ∙ holds-placed m fewer) ∙ ap told (sym (a .left)),
+    λ capacity lt. cond-false (holds nb (m .priority) (m .stamp) fewer) _ _ (holds-none m fewer (a .new)) ∙ cond-true (ltb (length fewer) capacity) _ _ (lt-ltb _ _ lt) ∙ ap told (sym (a .joined)),
+  )
 
   -- a waiting list with one folder set in place differs by that one
   pub one-apart : (m : Folder P) (fewer : List (Folder P)) (es : List (Entry P)) → Rising 0 es → waiting nb es ≡ placed nb m fewer → One-apart nb m fewer (waiting nb es)

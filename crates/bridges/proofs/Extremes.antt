@@ -1,16 +1,13 @@
 -- The hindmost and the foremost of some folders, and that there is only one.
-use mathlib.Core.Path.{_≡_, refl, sym, ap, _∙_}
+use mathlib.Core.Path.{_≡_, refl, ap}
 use mathlib.Core.Bool.{Bool, true, false, cond}
 use mathlib.Core.List.{List, [], _∷_}
 use mathlib.Core.Logic.{_⊎_, inl, inr}
-use Prim.Native.Nat.{ℕ}
-use native.Mathlib.Omega.{arith}
-use Rattle.std.specs.declared.option.Option.{Option}
-use Rattle.std.specs.declared.option.Option.the-variants.{Some, None}
+use Rattle.std.specs.declared.option.Option.the-variants.{Some}
 use Rattle.std.proofs.shelf.Tests.{both-ways, cases-eq}
 use Rattle.journal.specs.declared.folder.Folder.{Folder}
 use Rattle.journal.specs.Folders.{ahead, ahead-of-all, hindmost-of, hindmost, foremost-of, foremost}
-use Rattle.bridges.proofs.Ahead.{Lawful, ahead-asymmetric, ahead-total, ahead-transitive, ahead-cotransitive, ahead-irreflexive}
+use Rattle.bridges.proofs.Ahead.{Lawful, ahead-asymmetric, ahead-total, ahead-cotransitive, ahead-irreflexive}
 use Rattle.bridges.proofs.Members.{Among}
 
 -- folders of one stamp among these are one

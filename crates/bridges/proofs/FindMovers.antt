@@ -1,34 +1,32 @@
 -- Each bridge rule finds the mover of the replay.
 use mathlib.Core.Path.{_≡_, refl, sym, ap, ap₂, subst, _∙_}
-use mathlib.Core.Bool.{Bool, true, false, cond}
+use mathlib.Core.Bool.{Bool, true, false}
 use mathlib.Core.List.{List, [], _∷_, _++_}
-use mathlib.Core.Logic.{_⊎_, inl, inr}
-use Prim.Native.Nat.{ℕ, zero, suc, _+_, _-_, _≤_, _<_}
+use mathlib.Core.Logic.{inl, inr}
+use Prim.Native.Nat.{ℕ, suc, _-_, _≤_}
 use native.Mathlib.Omega.{arith}
-use lib.ListN.{length, take, drop, length-append}
-use lib.Seq.{take-append-seam, drop-append-seam, append-snoc}
-use Rattle.std.specs.declared.option.Option.{Option}
-use Rattle.std.specs.declared.option.Option.the-variants.{Some, None}
+use lib.ListN.{length, drop, length-append}
+use Rattle.std.specs.declared.option.Option.the-variants.{Some}
 use Rattle.std.proofs.shelf.Tests.{both-ways, and-parts}
 use Rattle.journal.specs.declared.folder.Folder.{Folder}
 use Rattle.journal.specs.declared.entry.Entry.{Entry}
 use Rattle.journal.specs.declared.entry.Entry.the-variants.{Arrival, Taking}
-use Rattle.journal.specs.declared.row.Row.{Row}
-use Rattle.journal.specs.Folders.{ahead-of-all, in-order, placed, has-stamp, hindmost-of, hindmost}
-use Rattle.journal.specs.Replay.{stamp-of, replay, rack-after, waiting, sound, by-stamp, dated, entered, struck, folders-of}
+use Rattle.journal.specs.Folders.{ahead-of-all, in-order, placed, has-stamp, hindmost}
+use Rattle.journal.specs.Replay.{replay, waiting, sound, entered, struck, folders-of}
 use Rattle.journal.specs.Rows.{entries, marked}
 use Rattle.journal.specs.Searches.{earlier}
-use Rattle.journal.specs.Movers.{entry-at, fetched-from, arrival-mover, taking-mover}
+use Rattle.journal.specs.Movers.{fetched-from, arrival-mover, taking-mover}
 use Rattle.bridges.specs.Racks.{Rising, Stands, Served, gone}
 use Rattle.bridges.specs.Counting.{rack-at}
 use Rattle.bridges.specs.Movers.{One-apart}
-use Rattle.bridges.specs.Rules.{hinder, hindmost-since-bridge, foremost-before-bridge, arrival-rule, taking-rule, fetched-revoked-rule, taking-revoked-rule, Kept, Bridges-find-movers}
+use Rattle.bridges.specs.Rules.{hinder, hindmost-since-bridge, foremost-before-bridge, arrival-rule, taking-rule, fetched-revoked-rule, taking-revoked-rule, Bridges-find-movers}
 use Rattle.bridges.proofs.Ahead.{Lawful}
 use Rattle.bridges.proofs.Racks.{placed-front, stands-taking, rising-earlier}
 use Rattle.bridges.proofs.OneMore.{never-served}
 use Rattle.bridges.proofs.Counts.{one-apart}
 use Rattle.bridges.proofs.Members.{Among, among-has-stamp, among-placed, placed-among}
-use Rattle.bridges.proofs.Journals.{Older, Corrected, entering, striking, rising-journal, rising-append, older-later, replay-append, served-parts, served-sound, fetches-from-append, stands-after}
+use Rattle.bridges.proofs.Journals.{Older, Corrected, entering, striking, rising-journal, older-later, replay-append, served-parts, served-sound, fetches-from-append, stands-after}
+use Rattle.bridges.proofs.Places.{rack-seam, drop-seam, length-seam, rack-next, drop-next}
 use Rattle.bridges.proofs.Movers.{arrival-corrected, taking-corrected}
 use Rattle.bridges.proofs.Bridges.{Settled, settled}
 use Rattle.bridges.proofs.Soundness.{waiting-between}
@@ -39,31 +37,8 @@ use Rattle.bridges.proofs.Marked.{entries-of-rows}
 use Rattle.bridges.proofs.Rules.{hinder-of, since-bridge, first-bridge, before-bridge}
 
 module _ {P : Type 0} (nb : P → P → Bool) where
-  pub rack-seam : (es xs ys : List (Entry P)) → es ≡ xs ++ ys → rack-at nb es (length xs) ≡ replay nb [] xs
-  rack-seam es xs ys e = ap (λ l. waiting nb (take (length xs) l)) e ∙ ap (waiting nb) (take-append-seam xs ys)
-
-  pub drop-seam : (es xs ys : List (Entry P)) → es ≡ xs ++ ys → drop (length xs) es ≡ ys
-  drop-seam es xs ys e = ap (drop (length xs)) e ∙ drop-append-seam xs ys
-
   later-seam : (es xs ys : List (Entry P)) → es ≡ xs ++ ys → later nb es (length xs) ≡ gone nb (replay nb [] xs) ys
-  later-seam es xs ys e = ap₂ (gone nb) (rack-seam es xs ys e) (drop-seam es xs ys e)
-
-  length-seam : (es xs ys : List (Entry P)) → es ≡ xs ++ ys → length xs ≤ length es
-  length-seam es xs ys e = omega (arith, ap length e, length-append xs ys)
-
-  -- the place after the next entry
-  length-next : (xs : List (Entry P)) (a : Entry P) → length (xs ++ a ∷ []) ≡ suc (length xs)
-  length-next xs a = let n = length-append xs (a ∷ []) in omega arith
-
-  next-seam : (es xs ys : List (Entry P)) (a : Entry P) → es ≡ xs ++ a ∷ ys → es ≡ (xs ++ a ∷ []) ++ ys
-  next-seam es [] ys a e = e
-  next-seam es (x ∷ xs) ys a e = e ∙ ap (λ l. x ∷ l) (next-seam (xs ++ a ∷ ys) xs ys a refl)
-
-  pub rack-next : (es xs ys : List (Entry P)) (a : Entry P) → es ≡ xs ++ a ∷ ys → rack-at nb es (suc (length xs)) ≡ rack-after nb (replay nb [] xs) a
-  rack-next es xs ys a e = ap (rack-at nb es) (sym (length-next xs a)) ∙ rack-seam es (xs ++ a ∷ []) ys (next-seam es xs ys a e) ∙ replay-append nb xs (a ∷ []) []
-
-  pub drop-next : (es xs ys : List (Entry P)) (a : Entry P) → es ≡ xs ++ a ∷ ys → drop (suc (length xs)) es ≡ ys
-  drop-next es xs ys a e = ap (λ n. drop n es) (sym (length-next xs a)) ∙ drop-seam es (xs ++ a ∷ []) ys (next-seam es xs ys a e)
+  later-seam es xs ys e = ap₂ (gone nb) (rack-seam nb es xs ys e) (drop-seam es xs ys e)
 
   -- those fetched at a stamp or later are those fetched after the place of the stamp
   fetched-from-later : (s : ℕ) (es xs ys : List (Entry P)) → es ≡ xs ++ ys → Older s xs → Rising s ys → fetched-from nb s es ≡ later nb es (length xs)
@@ -86,7 +61,7 @@ module _ {P : Type 0} (nb : P → P → Bool) (L : Lawful nb) where
       → hindmost-since-bridge nb (marked nb es) (earlier (marked nb es) s) ≡ hindmost nb (fetched-from nb s es)
   since-stamp s es xs ys r v e o k =
       ap (hindmost-since-bridge nb (marked nb es)) (place-of-stamp nb s es xs ys e o k)
-      ∙ since-bridge nb L es r v (length xs) (length-seam nb es xs ys e)
+      ∙ since-bridge nb L es r v (length xs) (length-seam es xs ys e)
       ∙ ap (hindmost nb) (sym (fetched-from-later nb s es xs ys e o k))
 
   -- who is foremost before the first bridge from a place, where the corrected journal's rack at the place lacks one folder
@@ -115,19 +90,20 @@ module _ {P : Type 0} (nb : P → P → Bool) (L : Lawful nb) where
           → foremost-before-bridge nb (marked nb es) (length (c .before)) ≡ Some m
       go [] at st k m a = absurd (never-served s k)
       go (z ∷ rack) at st k m a =
-          let rest-is = drop-seam nb es (c .before) (c .after) (c .lacking-is) in
+          let rest-is = drop-seam es (c .before) (c .after) (c .lacking-is) in
           let on = stands-taking nb L z s rack (c .after) st in
           let here : rack-at nb es (length (c .before)) ≡ z ∷ rack = rack-seam nb es (c .before) (c .after) (c .lacking-is) ∙ at in
-          before-place (length (c .before)) es having rack r v (length-seam nb es (c .before) (c .after) (c .lacking-is))
-            (record {
-              lacking = z;
-              more = here ∙ sym (placed-front nb z rack (and-parts (ahead-of-all nb z rack) (in-order nb rack) (st .order) .0));
-              stands = record { bound = on .bound; below = on .below; order = on .order; rising = rw rest-is (on .rising) };
-              old = omega (arith, st .below .0, st .rising .0);
-              served = rw rest-is k;
-              fetched-or-first = inr here })
-            (ap (waiting nb) (c .having-is) ∙ replay-append nb (c .before) (Taking s ∷ c .after) [] ∙ ap (λ l. replay nb l (Taking s ∷ c .after)) at ∙ ap (replay nb rack) (sym rest-is))
-            m a
+          before-place (length (c .before)) es having rack r v (length-seam es (c .before) (c .after) (c .lacking-is))
+          (record {
+            lacking = z;
+            more = here ∙ sym (placed-front nb z rack (and-parts (ahead-of-all nb z rack) (in-order nb rack) (st .order) .0));
+            stands = record { bound = on .bound; below = on .below; order = on .order; rising = rw rest-is (on .rising) };
+            old = omega (arith, st .below .0, st .rising .0);
+            served = rw rest-is k;
+            fetched-or-first = inr here;
+          })
+          (ap (waiting nb) (c .having-is) ∙ replay-append nb (c .before) (Taking s ∷ c .after) [] ∙ ap (λ l. replay nb l (Taking s ∷ c .after)) at ∙ ap (replay nb rack) (sym rest-is))
+          m a
 
   fetched-found : (f : Folder P) (es lacking : List (Entry P)) → Rising 0 es → Served nb [] es → Corrected 0 (Arrival f) lacking es → has-stamp (f .stamp) (waiting nb es) ≡ false → sound nb lacking ≡ true
       → foremost-before-bridge nb (marked nb es) (suc (earlier (marked nb es) (f .stamp))) ≡ Some (arrival-mover nb lacking f)
@@ -135,21 +111,22 @@ module _ {P : Type 0} (nb : P → P → Bool) (L : Lawful nb) where
       let xs = c .before in
       let ys = c .after in
       let place = place-of-stamp nb (f .stamp) es xs (Arrival f ∷ ys) (c .having-is) (c .older) (omega arith, c .rising-after) in
-      let rest-is = drop-next nb es xs ys (Arrival f) (c .having-is) in
+      let rest-is = drop-next es xs ys (Arrival f) (c .having-is) in
       let here = rack-next nb es xs ys (Arrival f) (c .having-is) in
       let on = stands-after nb L (suc (f .stamp)) xs ys (c .rising-before) (older-later (f .stamp) xs (c .older)) (c .rising-after) in
       let served = served-parts nb xs ys [] (served-sound _ (rw (c .lacking-is) at h)) .1 in
       ap (λ q. foremost-before-bridge nb (marked nb es) (suc q)) place
       ∙ before-place (suc (length xs)) es lacking (replay nb [] xs) r v (omega (arith, ap length (c .having-is), length-append xs (Arrival f ∷ ys)))
-          (record {
-            lacking = f;
-            more = here;
-            stands = record { bound = on .bound; below = on .below; order = on .order; rising = rw rest-is (on .rising) };
-            old = omega arith;
-            served = rw rest-is served;
-            fetched-or-first = inl (go (settled nb es (suc (length xs)) f r (rw here (among-placed nb f f (replay nb [] xs) (inl refl))))) })
-          (ap (waiting nb) (c .lacking-is) ∙ replay-append nb xs ys [] ∙ ap (replay nb (replay nb [] xs)) (sym rest-is))
-          (arrival-mover nb lacking f) (arrival-corrected nb L f lacking es c h)
+      (record {
+        lacking = f;
+        more = here;
+        stands = record { bound = on .bound; below = on .below; order = on .order; rising = rw rest-is (on .rising) };
+        old = omega arith;
+        served = rw rest-is served;
+        fetched-or-first = inl (go (settled nb es (suc (length xs)) f r (rw here (among-placed nb f f (replay nb [] xs) (inl refl)))));
+      })
+      (ap (waiting nb) (c .lacking-is) ∙ replay-append nb xs ys [] ∙ ap (replay nb (replay nb [] xs)) (sym rest-is))
+      (arrival-mover nb lacking f) (arrival-corrected nb L f lacking es c h)
     where
       go : Settled nb es (suc (length (c .before))) f → Among f (later nb es (suc (length (c .before))))
       go (inl k) = absurd (both-ways _ w (k .0))
@@ -165,33 +142,34 @@ module _ {P : Type 0} (nb : P → P → Bool) (L : Lawful nb) where
 
   pub bridges-find-movers : Bridges-find-movers nb
   bridges-find-movers = record {
-      arrival = λ rs f k d.
+    arrival = λ rs f k d.
         let es = entries rs in
         let r = rising-journal es (k .order) in
         let c = entering 0 (Arrival f) es (omega arith) r d in
         ap (λ l. arrival-rule nb l f) (k .marks)
         ∙ ap (hinder nb f) (since-stamp (f .stamp) es (c .before) (c .after) r (served-sound _ (k .served)) (c .lacking-is) (c .older) (rising-earlier (f .stamp) (suc (f .stamp)) (c .after) (omega arith) (c .rising-after)))
         ∙ hinder-of nb L f (fetched-from nb (f .stamp) es);
-      taking = λ rs s k d h.
+    taking = λ rs s k d h.
         let es = entries rs in
         let r = rising-journal es (k .order) in
         ap (λ l. taking-rule nb l s) (k .marks) ∙ taking-found s es (entered (Taking s) es) r (served-sound _ (k .served)) (entering 0 (Taking s) es (omega arith) r d) h;
-      waiting-revoked = λ rs s f k at w.
+    waiting-revoked = λ rs s f k at w.
         let es = entries rs in
         let r = rising-journal es (k .order) in
         let got = striking 0 s (Arrival f) es r at in
         waiting-found f es (struck s es) r (k .served) (got .2) (rw (← got .0) at w);
-      fetched-revoked = λ rs s f k at w h.
+    fetched-revoked = λ rs s f k at w h.
         let es = entries rs in
         let r = rising-journal es (k .order) in
         let got = striking 0 s (Arrival f) es r at in
         ap (λ l. fetched-revoked-rule nb l s) (k .marks) ∙ ap (fetched-revoked-rule nb (marked nb es)) (sym (got .0))
         ∙ fetched-found f es (struck s es) r (served-sound _ (k .served)) (got .2) (rw (← got .0) at w) h;
-      taking-revoked = λ rs s t k at.
+    taking-revoked = λ rs s t k at.
         let es = entries rs in
         let r = rising-journal es (k .order) in
         let got = striking 0 s (Taking t) es r at in
         let c = got .2 in
         ap (λ l. taking-revoked-rule nb l s) (k .marks) ∙ ap (taking-revoked-rule nb (marked nb es)) (sym (got .0))
         ∙ since-stamp t es (c .before) (Taking t ∷ c .after) r (served-sound _ (k .served)) (c .having-is) (c .older) (omega arith, c .rising-after)
-        ∙ ap (λ n. taking-mover nb es n) (got .0) }
+        ∙ ap (λ n. taking-mover nb es n) (got .0);
+  }

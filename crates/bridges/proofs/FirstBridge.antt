@@ -5,7 +5,7 @@ use mathlib.Core.List.{List, [], _∷_}
 use mathlib.Core.Logic.{_⊎_, inl, inr}
 use Prim.Native.Nat.{ℕ, zero, suc, _+_, _≤_, _<_}
 use native.Mathlib.Omega.{arith}
-use lib.ListN.{length, take, drop}
+use lib.ListN.{length, drop}
 use Rattle.std.proofs.shelf.Tests.{and-parts, both-ways}
 use Rattle.journal.specs.declared.folder.Folder.{Folder}
 use Rattle.journal.specs.declared.entry.Entry.{Entry}
@@ -65,31 +65,34 @@ module _ {P : Type 0} (nb : P → P → Bool) (L : Lawful nb) where
   trails-on : (e : Folder P) (a : Entry P) (next : List (Entry P)) (fewer : List (Folder P)) → in-order nb (placed nb e fewer) ≡ true → (st : Stands nb fewer (a ∷ next)) → e .stamp < st .bound
       → Served nb fewer (a ∷ next) → Among e (gone nb (placed nb e fewer) (a ∷ next)) → Trails (rack-after nb (placed nb e fewer) a) (rack-after nb fewer a) next
   trails-on e (Arrival f) next fewer o st lt s m = record {
-      lacking = e;
-      more = placed-swap nb L f e fewer (λ q. omega (arith, st .rising .0));
-      stands = stands-arrival nb L f fewer next st;
-      old = omega (arith, st .rising .0);
-      served = s;
-      fetched-or-first = inl m }
+    lacking = e;
+    more = placed-swap nb L f e fewer (λ q. omega (arith, st .rising .0));
+    stands = stands-arrival nb L f fewer next st;
+    old = omega (arith, st .rising .0);
+    served = s;
+    fetched-or-first = inl m;
+  }
   trails-on e (Taking t) next [] o st lt s m = absurd (never-served t s)
   trails-on e (Taking t) next (y ∷ fewer) o st lt s m = go (ahead nb e y) o m
     where
       go : (b : Bool) → in-order nb (cond b (e ∷ y ∷ fewer) (y ∷ placed nb e fewer)) ≡ true → Among e (gone nb (cond b (e ∷ y ∷ fewer) (y ∷ placed nb e fewer)) (Taking t ∷ next))
           → Trails (rest (cond b (e ∷ y ∷ fewer) (y ∷ placed nb e fewer))) fewer next
       go true k n = record {
-          lacking = y;
-          more = sym (placed-front nb y fewer (and-parts (ahead-of-all nb y fewer) (in-order nb fewer) (st .order) .0));
-          stands = stands-taking nb L y t fewer next st;
-          old = omega (arith, st .below .0, st .rising .0);
-          served = s;
-          fetched-or-first = inr refl }
+        lacking = y;
+        more = sym (placed-front nb y fewer (and-parts (ahead-of-all nb y fewer) (in-order nb fewer) (st .order) .0));
+        stands = stands-taking nb L y t fewer next st;
+        old = omega (arith, st .below .0, st .rising .0);
+        served = s;
+        fetched-or-first = inr refl;
+      }
       go false k n = record {
-          lacking = e;
-          more = refl;
-          stands = stands-taking nb L y t fewer next st;
-          old = omega (arith, st .rising .0);
-          served = s;
-          fetched-or-first = inl (pass n) }
+        lacking = e;
+        more = refl;
+        stands = stands-taking nb L y t fewer next st;
+        old = omega (arith, st .rising .0);
+        served = s;
+        fetched-or-first = inl (pass n);
+      }
         where
           first : ahead nb y e ≡ true
           first = ahead-of-each nb y e (placed nb e fewer) (and-parts (ahead-of-all nb y (placed nb e fewer)) (in-order nb (placed nb e fewer)) k .0) (among-placed nb e e fewer (inl refl))

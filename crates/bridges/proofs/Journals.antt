@@ -1,22 +1,21 @@
 -- Journals in two parts, and a journal beside the journal with one entry more.
 use mathlib.Core.Path.{_≡_, refl, sym, ap, _∙_}
-use mathlib.Core.Bool.{Bool, true, false, cond, not, _&&_}
+use mathlib.Core.Bool.{Bool, true, false, cond, not}
 use mathlib.Core.List.{List, [], _∷_, _++_, map}
 use Prim.Native.Nat.{ℕ, suc, _≤_, _<_}
 use native.Mathlib.Omega.{arith}
-use lib.Dec.{ltb, leb, eqb}
+use lib.Dec.{ltb, eqb}
 use Rattle.std.specs.declared.option.Option.{Option}
 use Rattle.std.specs.declared.option.Option.the-variants.{Some, None}
 use Rattle.std.specs.Options.{isSome}
-use Rattle.std.proofs.shelf.Tests.{and-parts, and-from, or-parts, ltb-true, ltb-false, eqb-true, eqb-false, le-leb, lt-leb, lt-ltb, cond-false, both-ways}
-use Rattle.std.proofs.shelf.Ways.{tells}
+use Rattle.std.proofs.shelf.Tests.{and-parts, and-from, or-parts, ltb-true, ltb-false, eqb-true, eqb-false, le-leb, lt-leb, lt-ltb, both-ways}
 use Rattle.journal.specs.declared.folder.Folder.{Folder}
 use Rattle.journal.specs.declared.entry.Entry.{Entry}
 use Rattle.journal.specs.declared.entry.Entry.the-variants.{Arrival, Taking}
 use Rattle.journal.specs.Folders.{placed, in-order, ahead-of-all}
-use Rattle.journal.specs.Replay.{stamp-of, rising, by-stamp, dated, entered, struck, replay, fetches, fetches-from, first-empty, sound}
+use Rattle.journal.specs.Replay.{stamp-of, rising, by-stamp, dated, entered, struck, replay, fetches, fetches-from}
 use Rattle.journal.specs.Movers.{entry-at}
-use Rattle.bridges.specs.Racks.{Below, Rising, Stands, Served, gone}
+use Rattle.bridges.specs.Racks.{Below, Rising, Stands, Served}
 use Rattle.bridges.proofs.Ahead.{Lawful}
 use Rattle.bridges.proofs.Racks.{below-later, below-placed, in-order-placed, rising-earlier}
 use Rattle.bridges.proofs.OneMore.{never-served}
@@ -63,8 +62,15 @@ module _ {P : Type 0} where
       go false t ih ne =
           let lt : stamp-of d < stamp-of e = omega (arith, ltb-false _ _ t) in
           let c = ih lt in
-          record { before = d ∷ c .before; after = c .after; lacking-is = ap (λ l. d ∷ l) (c .lacking-is); having-is = ap (λ l. d ∷ l) (c .having-is);
-            older = (lt, c .older); rising-before = (r .0, c .rising-before); rising-after = c .rising-after }
+          record {
+            before = d ∷ c .before;
+            after = c .after;
+            lacking-is = ap (λ l. d ∷ l) (c .lacking-is);
+            having-is = ap (λ l. d ∷ l) (c .having-is);
+            older = (lt, c .older);
+            rising-before = (r .0, c .rising-before);
+            rising-after = c .rising-after;
+          }
 
   pub striking : (n : ℕ) (s : ℕ) (e : Entry P) (es : List (Entry P)) → Rising n es → entry-at s es ≡ Some e → (stamp-of e ≡ s) × (n ≤ s) × Corrected n e (struck s es) es
   striking n s e [] r h = absurd (let z : _≡_ {A = ℕ} 0 1 = cc in omega arith)
@@ -78,9 +84,19 @@ module _ {P : Type 0} where
           (ap stamp-of (sym same) ∙ at, omega (arith, r .0), record { before = []; after = ds; lacking-is = refl; having-is = ap (λ x. x ∷ ds) same; older = tt; rising-before = tt; rising-after = rw same at (r .1) })
       go false t k ih =
           let got = ih k in
-          let c = got .2 in
-          (got .0, omega (arith, r .0, got .1), record { before = d ∷ c .before; after = c .after; lacking-is = ap (λ l. d ∷ l) (c .lacking-is); having-is = ap (λ l. d ∷ l) (c .having-is);
-            older = (omega (arith, got .0, got .1), c .older); rising-before = (r .0, c .rising-before); rising-after = c .rising-after })
+          let c = got .2 in (
+            got .0,
+            omega (arith, r .0, got .1),
+            record {
+              before = d ∷ c .before;
+              after = c .after;
+              lacking-is = ap (λ l. d ∷ l) (c .lacking-is);
+              having-is = ap (λ l. d ∷ l) (c .having-is);
+              older = (omega (arith, got .0, got .1), c .older);
+              rising-before = (r .0, c .rising-before);
+              rising-after = c .rising-after;
+            },
+          )
 
   pub older-later : (n : ℕ) (es : List (Entry P)) → Older n es → Older (suc n) es
   older-later n [] o = tt

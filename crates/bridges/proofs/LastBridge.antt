@@ -1,18 +1,18 @@
 -- From the last bridge on: each fetched folder is fetched after a later place too, or ahead of one that is.
 use mathlib.Core.Path.{_≡_, refl, sym, ap, ap₂, _∙_}
-use mathlib.Core.Bool.{Bool, true, false, cond}
+use mathlib.Core.Bool.{Bool, true}
 use mathlib.Core.List.{List, [], _∷_}
 use mathlib.Core.Logic.{_⊎_, inl, inr}
 use Prim.Native.Nat.{ℕ, zero, suc, _+_, _≤_, _<_}
 use native.Mathlib.Omega.{arith}
-use lib.ListN.{length, take, drop}
+use lib.ListN.{length, drop}
 use Rattle.std.proofs.shelf.Tests.{and-parts}
 use Rattle.journal.specs.declared.folder.Folder.{Folder}
 use Rattle.journal.specs.declared.entry.Entry.{Entry}
 use Rattle.journal.specs.declared.entry.Entry.the-variants.{Arrival, Taking}
-use Rattle.journal.specs.Folders.{ahead, ahead-of-all, in-order, placed}
+use Rattle.journal.specs.Folders.{ahead, ahead-of-all, in-order}
 use Rattle.journal.specs.Replay.{rack-after}
-use Rattle.bridges.specs.Racks.{Rising, Stands, gone}
+use Rattle.bridges.specs.Racks.{Rising, gone}
 use Rattle.bridges.specs.Counting.{rack-at}
 use Rattle.bridges.proofs.Ahead.{Lawful, ahead-transitive}
 use Rattle.bridges.proofs.Members.{Among}

@@ -21,3 +21,5 @@ pub mod Marks
 pub mod Calls
 pub mod PlaceForms
 pub mod ByRows
+pub mod FoldersOrdered
+pub mod Keeping

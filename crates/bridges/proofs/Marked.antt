@@ -1,30 +1,24 @@
 -- Marked rows: which folders have a mark, and where an arrival stands.
 use mathlib.Core.Path.{_≡_, refl, sym, ap, _∙_}
 use mathlib.Core.Bool.{Bool, true, false, cond}
-use mathlib.Core.List.{List, [], _∷_, _++_, map}
-use mathlib.Core.Logic.{_⊎_, inl, inr}
-use Prim.Native.Nat.{ℕ, zero, suc, _+_, _≤_, _<_}
+use mathlib.Core.List.{List, [], _∷_, map}
+use mathlib.Core.Logic.{inl, inr}
+use Prim.Native.Nat.{ℕ, suc, _+_, _≤_}
 use native.Mathlib.Omega.{arith}
-use lib.ListN.{length, take, drop}
-use lib.Dec.{ltb, eqb}
-use Rattle.std.specs.declared.option.Option.{Option}
-use Rattle.std.specs.declared.option.Option.the-variants.{Some, None}
-use Rattle.std.specs.Options.{mapped, flattened}
-use Rattle.std.specs.shelf.Maps.{nth}
-use Rattle.std.proofs.shelf.Tests.{both-ways, lt-ltb, le-ltb, eq-eqb, or-parts, eqb-false, eqb-true}
+use Rattle.std.specs.declared.option.Option.the-variants.{Some}
+use Rattle.std.proofs.shelf.Tests.{both-ways, lt-ltb, le-ltb, or-parts, eqb-false}
 use Rattle.journal.specs.declared.folder.Folder.{Folder}
 use Rattle.journal.specs.declared.entry.Entry.{Entry}
 use Rattle.journal.specs.declared.entry.Entry.the-variants.{Arrival, Taking}
 use Rattle.journal.specs.declared.row.Row.{Row}
 use Rattle.journal.specs.declared.row.Row.the-variants as row
-use Rattle.journal.specs.declared.row.Mark.{Mark}
 use Rattle.journal.specs.declared.row.Mark.the-variants.{Waiting, Fetched}
 use Rattle.journal.specs.Folders.{has-stamp}
-use Rattle.journal.specs.Replay.{stamp-of, dated}
-use Rattle.journal.specs.Rows.{entry-of, entries, row-of}
+use Rattle.journal.specs.Replay.{dated}
+use Rattle.journal.specs.Rows.{entries, row-of}
 use Rattle.journal.specs.Searches.{earlier, folders-marked, with-marked}
 use Rattle.bridges.specs.Racks.{Rising}
-use Rattle.bridges.specs.Rules.{and-then, folder-of, folder-at}
+use Rattle.bridges.specs.Rules.{folder-at}
 use Rattle.bridges.proofs.Racks.{rising-earlier}
 use Rattle.bridges.proofs.Stocks.{earlier-none}
 use Rattle.bridges.proofs.Counts.{arrivals}

@@ -1,17 +1,17 @@
 -- The marks after a change of rows.
-use mathlib.Core.Path.{_≡_, refl, sym, ap, ap₂, subst, _∙_}
+use mathlib.Core.Path.{_≡_, refl, sym, ap, ap₂, _∙_}
 use mathlib.Core.Bool.{Bool, true, false, cond, _||_}
 use mathlib.Core.List.{List, [], _∷_, _++_, map}
 use mathlib.Core.Logic.{_⊎_, inl, inr}
-use Prim.Native.Nat.{ℕ, zero, suc, _+_, _≤_, _<_}
+use Prim.Native.Nat.{ℕ, suc, _+_, _<_}
 use native.Mathlib.Omega.{arith}
-use lib.ListN.{length, take, drop, length-map}
+use lib.ListN.{length, length-map}
 use lib.Seq.{take-append-seam, drop-append-seam}
-use lib.Dec.{eqb, ltb}
+use lib.Dec.{eqb}
 use Rattle.std.specs.declared.option.Option.{Option}
 use Rattle.std.specs.declared.option.Option.the-variants.{Some, None}
 use Rattle.std.specs.shelf.Lists.{inserted, removed}
-use Rattle.std.proofs.shelf.Tests.{both-ways, or-parts, or-from, lt-ltb, le-ltb, eq-eqb, ne-eqb, eqb-true, eqb-false, cases-bool}
+use Rattle.std.proofs.shelf.Tests.{both-ways, or-parts, or-from, lt-ltb, le-ltb, eq-eqb, ne-eqb, eqb-true}
 use Rattle.std.proofs.shelf.Lists.{map-append}
 use Rattle.journal.specs.declared.folder.Folder.{Folder}
 use Rattle.journal.specs.declared.entry.Entry.{Entry}
@@ -25,7 +25,7 @@ use Rattle.journal.specs.Replay.{stamp-of, waiting, sound, dated, entered, stru
 use Rattle.journal.specs.Rows.{entry-of, entries, row-of, marked}
 use Rattle.journal.specs.Searches.{earlier}
 use Rattle.journal.specs.Changes.{put-row, removed-at, marked-as, mark-at}
-use Rattle.journal.specs.Movers.{entry-at, arrival-mover, taking-mover}
+use Rattle.journal.specs.Movers.{arrival-mover, taking-mover}
 use Rattle.bridges.specs.Racks.{Rising}
 use Rattle.bridges.specs.Movers.{One-apart}
 use Rattle.bridges.specs.Rules.{hindmost-since-bridge, hinder, arrival-rule, taking-rule, fetched-revoked-rule, taking-revoked-rule, Kept}
@@ -33,7 +33,7 @@ use Rattle.bridges.specs.Marks.{mover-marked, arrival-change, arrival-rows, ta
 use Rattle.bridges.proofs.Ahead.{Lawful, ahead-irreflexive}
 use Rattle.bridges.proofs.Racks.{rising-earlier}
 use Rattle.bridges.proofs.Counts.{arrivals}
-use Rattle.bridges.proofs.Members.{Among, among-has-stamp, has-stamp-among, among-placed, among-start}
+use Rattle.bridges.proofs.Members.{Among, among-has-stamp, has-stamp-among, among-placed, waiting-arrived}
 use Rattle.bridges.proofs.Journals.{Older, Corrected, entering, striking, rising-journal, rising-append, by-stamp-rising}
 use Rattle.bridges.proofs.Stocks.{earlier-none, earlier-parts}
 use Rattle.bridges.proofs.Marked.{entries-of-rows, arrival-later, arrival-dated}
@@ -91,9 +91,9 @@ module _ {P : Type 0} where
       let ys = c .after in
       let rows : map (row-of ws) lacking ≡ map (row-of ws) xs ++ map (row-of ws) ys = ap (map (row-of ws)) (c .lacking-is) ∙ map-append (row-of ws) xs ys in
       let place : earlier (map (row-of ws) lacking) (stamp-of (entry-of (row-of ws a))) ≡ length (map (row-of ws) xs)
-            = ap (earlier (map (row-of ws) lacking)) (row-stamp ws a)
-              ∙ earlier-parts (stamp-of a) xs ys (map (row-of ws) lacking) (entries-of-rows ws lacking ∙ c .lacking-is) (c .older) (rising-earlier (stamp-of a) (suc (stamp-of a)) ys (omega arith) (c .rising-after))
-              ∙ sym (length-map xs (row-of ws)) in
+      = ap (earlier (map (row-of ws) lacking)) (row-stamp ws a)
+      ∙ earlier-parts (stamp-of a) xs ys (map (row-of ws) lacking) (entries-of-rows ws lacking ∙ c .lacking-is) (c .older) (rising-earlier (stamp-of a) (suc (stamp-of a)) ys (omega arith) (c .rising-after))
+      ∙ sym (length-map xs (row-of ws)) in
       ap₂ (λ l n. inserted l n (row-of ws a)) rows place ∙ insert-seam (row-of ws a) (map (row-of ws) xs) (map (row-of ws) ys)
       ∙ sym (ap (map (row-of ws)) (c .having-is) ∙ map-append (row-of ws) xs (a ∷ ys))
 
@@ -204,16 +204,9 @@ module _ {P : Type 0} (nb : P → P → Bool) where
   pub rising-having : (a : Entry P) (lacking having : List (Entry P)) → Corrected 0 a lacking having → Rising 0 having
   rising-having a lacking having c = rw (c .having-is) (rising-append 0 (stamp-of a) (c .before) (a ∷ c .after) (c .rising-before) (c .older) (omega arith) (omega arith, c .rising-after))
 
-  waiting-arrived : (es : List (Entry P)) (f : Folder P) → Among f (waiting nb es) → Among f (arrivals es)
-  waiting-arrived es f m = go (among-start nb f es [] (inl m))
-    where
-      go : Among f [] ⊎ Among f (arrivals es) → Among f (arrivals es)
-      go (inl k) = elim k [ ]
-      go (inr k) = k
-
   -- who makes two waiting lists differ is an arrival of the journal of the longer one
   mover-arrived : (m : Folder P) (fewer : List (Folder P)) (es : List (Entry P)) → One-apart nb m fewer (waiting nb es) → Among m (arrivals es)
-  mover-arrived m fewer es a = waiting-arrived es m (rw (a .joined) (among-placed nb m m fewer (inl refl)))
+  mover-arrived m fewer es a = waiting-arrived nb es m (rw (a .joined) (among-placed nb m m fewer (inl refl)))
 
   -- rows with the marks of the replay carry their journal
   carries : (rs : List (Row P)) (es : List (Entry P)) → rs ≡ marked nb es → Rising 0 es → sound nb es ≡ true → Carries nb rs es
@@ -248,7 +241,7 @@ module _ {P : Type 0} (nb : P → P → Bool) (L : Lawful nb) where
           let h : has-stamp (f .stamp) (waiting nb having) ≡ false = rw (w, has-stamp-placed nb (f .stamp) g (waiting nb es)) (or-from _ _ apart (absent (has-stamp (f .stamp) (waiting nb es)) refl)) in
           let row-is : row-of (waiting nb having) (Arrival f) ≡ row.Arrival f Fetched = rw h refl in
           let rows-are : map (row-of (waiting nb having)) es ≡ mark-at Waiting (earlier (marked nb es) (g .stamp)) (marked nb es)
-                = ap (λ l. map (row-of l) es) w ∙ sym (join-marks nb g (waiting nb es) es (rising-lacking nb (Arrival f) es having c) arrived) in
+          = ap (λ l. map (row-of l) es) w ∙ sym (join-marks nb g (waiting nb es) es (rising-lacking nb (Arrival f) es having c) arrived) in
           sym (ap₂ put-row row-is rows-are) ∙ put-marked (waiting nb having) (Arrival f) es having c
         where
           old : (g ≡ f) ⊎ Among g (arrivals es) → Among g (arrivals es)
@@ -275,8 +268,8 @@ module _ {P : Type 0} (nb : P → P → Bool) (L : Lawful nb) where
       let m = moved .0 in
       let a = moved .2 in
       let rows-are : mover-marked Fetched (marked nb es) o ≡ map (row-of (waiting nb having)) es
-            = ap (mover-marked Fetched (marked nb es)) (e ∙ moved .1)
-              ∙ leave-marks nb m (waiting nb having) (waiting nb es) es (rising-lacking nb (Taking s) es having c) (mover-arrived nb m (waiting nb having) es a) (a .new) (a .joined) in
+      = ap (mover-marked Fetched (marked nb es)) (e ∙ moved .1)
+      ∙ leave-marks nb m (waiting nb having) (waiting nb es) es (rising-lacking nb (Taking s) es having c) (mover-arrived nb m (waiting nb having) es a) (a .new) (a .joined) in
       ap (put-row (row.Taking s)) rows-are ∙ put-marked (waiting nb having) (Taking s) es having c
 
   waiting-revoked-kept : (f : Folder P) (lacking es : List (Entry P)) → sound nb lacking ≡ true → (c : Corrected 0 (Arrival f) lacking es) → f ≡ arrival-mover nb lacking f
@@ -294,8 +287,8 @@ module _ {P : Type 0} (nb : P → P → Bool) (L : Lawful nb) where
       let m = arrival-mover nb lacking f in
       let a = arrival-corrected nb L f lacking es c h in
       let rows-are : mover-marked Fetched (marked nb es) o ≡ map (row-of (waiting nb lacking)) es
-            = ap (mover-marked Fetched (marked nb es)) e
-              ∙ leave-marks nb m (waiting nb lacking) (waiting nb es) es (rising-having nb (Arrival f) lacking es c) (mover-arrived nb m (waiting nb lacking) es a) (a .new) (a .joined) in
+      = ap (mover-marked Fetched (marked nb es)) e
+      ∙ leave-marks nb m (waiting nb lacking) (waiting nb es) es (rising-having nb (Arrival f) lacking es c) (mover-arrived nb m (waiting nb lacking) es a) (a .new) (a .joined) in
       ap (removed-at (earlier (marked nb es) (f .stamp))) rows-are
       ∙ removed-marked (waiting nb lacking) (Arrival f) lacking es c (earlier (marked nb es) (f .stamp)) (place-having (waiting nb es) (Arrival f) lacking es c)
 
@@ -306,50 +299,51 @@ module _ {P : Type 0} (nb : P → P → Bool) (L : Lawful nb) where
       let m = moved .0 in
       let a = moved .2 in
       let rows-are : mover-marked Waiting (marked nb es) o ≡ map (row-of (waiting nb lacking)) es
-            = ap (mover-marked Waiting (marked nb es)) (e ∙ moved .1)
-              ∙ join-marks nb m (waiting nb es) es (rising-having nb (Taking s) lacking es c) (arrived-more (Taking s) lacking es c m (mover-arrived nb m (waiting nb es) lacking a))
-              ∙ ap (λ l. map (row-of l) es) (sym (a .joined)) in
+      = ap (mover-marked Waiting (marked nb es)) (e ∙ moved .1)
+      ∙ join-marks nb m (waiting nb es) es (rising-having nb (Taking s) lacking es c) (arrived-more (Taking s) lacking es c m (mover-arrived nb m (waiting nb es) lacking a))
+      ∙ ap (λ l. map (row-of l) es) (sym (a .joined)) in
       ap (removed-at (earlier (marked nb es) s)) rows-are
       ∙ removed-marked (waiting nb lacking) (Taking s) lacking es c (earlier (marked nb es) s) (place-having (waiting nb es) (Taking s) lacking es c)
 
   pub marks-kept : Marks-kept nb
   marks-kept = record {
-      arrival = λ rs f k d.
+    arrival = λ rs f k d.
         let es = entries rs in
         let c = entering 0 (Arrival f) es (omega arith) (rising-journal es (k .order)) d in
         let s = soundness-by-stock nb L .arrival-entered es f (k .order) (k .served) d in
         carries nb (arrival-rows nb rs f) (entered (Arrival f) es)
-          (ap (λ l. arrival-rows nb l f) (k .marks)
-           ∙ arrival-kept f es (entered (Arrival f) es) (k .served) s c d (hindmost-since-bridge nb (marked nb es) (earlier (marked nb es) (f .stamp)))
-               (sym (ap (λ l. arrival-rule nb l f) (k .marks)) ∙ bridges-find-movers nb L .arrival rs f k d))
-          (rising-having nb (Arrival f) es (entered (Arrival f) es) c) s;
-      taking = λ rs s k d h.
+        (ap (λ l. arrival-rows nb l f) (k .marks)
+        ∙ arrival-kept f es (entered (Arrival f) es) (k .served) s c d (hindmost-since-bridge nb (marked nb es) (earlier (marked nb es) (f .stamp)))
+        (sym (ap (λ l. arrival-rule nb l f) (k .marks)) ∙ bridges-find-movers nb L .arrival rs f k d))
+        (rising-having nb (Arrival f) es (entered (Arrival f) es) c) s;
+    taking = λ rs s k d h.
         let es = entries rs in
         let c = entering 0 (Taking s) es (omega arith) (rising-journal es (k .order)) d in
         carries nb (taking-rows nb rs s) (entered (Taking s) es)
-          (ap (λ l. taking-rows nb l s) (k .marks)
-           ∙ taking-kept s es (entered (Taking s) es) h c (taking-rule nb (marked nb es) s) (sym (ap (λ l. taking-rule nb l s) (k .marks)) ∙ bridges-find-movers nb L .taking rs s k d h))
-          (rising-having nb (Taking s) es (entered (Taking s) es) c) h;
-      waiting-revoked = λ rs s f k at w.
+        (ap (λ l. taking-rows nb l s) (k .marks)
+        ∙ taking-kept s es (entered (Taking s) es) h c (taking-rule nb (marked nb es) s) (sym (ap (λ l. taking-rule nb l s) (k .marks)) ∙ bridges-find-movers nb L .taking rs s k d h))
+        (rising-having nb (Taking s) es (entered (Taking s) es) c) h;
+    waiting-revoked = λ rs s f k at w.
         let es = entries rs in
         let got = striking 0 s (Arrival f) es (rising-journal es (k .order)) at in
         let v = soundness-by-stock nb L .waiting-struck es s f (k .order) (k .served) at w in
         carries nb (waiting-revoked-rows nb rs s) (struck s es)
-          (ap (λ l. waiting-revoked-rows nb l s) (k .marks) ∙ ap (waiting-revoked-rows nb (marked nb es)) (sym (got .0))
-           ∙ waiting-revoked-kept f (struck s es) es v (got .2) (bridges-find-movers nb L .waiting-revoked rs s f k at w))
-          (rising-lacking nb (Arrival f) (struck s es) es (got .2)) v;
-      fetched-revoked = λ rs s f k at w h.
+        (ap (λ l. waiting-revoked-rows nb l s) (k .marks) ∙ ap (waiting-revoked-rows nb (marked nb es)) (sym (got .0))
+        ∙ waiting-revoked-kept f (struck s es) es v (got .2) (bridges-find-movers nb L .waiting-revoked rs s f k at w))
+        (rising-lacking nb (Arrival f) (struck s es) es (got .2)) v;
+    fetched-revoked = λ rs s f k at w h.
         let es = entries rs in
         let got = striking 0 s (Arrival f) es (rising-journal es (k .order)) at in
         carries nb (fetched-revoked-rows nb rs s) (struck s es)
-          (ap (λ l. fetched-revoked-rows nb l s) (k .marks) ∙ ap (λ n. removed-at (earlier (marked nb es) n) (mover-marked Fetched (marked nb es) (fetched-revoked-rule nb (marked nb es) s))) (sym (got .0))
-           ∙ fetched-revoked-kept f (struck s es) es h (got .2) (fetched-revoked-rule nb (marked nb es) s) (sym (ap (λ l. fetched-revoked-rule nb l s) (k .marks)) ∙ bridges-find-movers nb L .fetched-revoked rs s f k at w h))
-          (rising-lacking nb (Arrival f) (struck s es) es (got .2)) h;
-      taking-revoked = λ rs s t k at.
+        (ap (λ l. fetched-revoked-rows nb l s) (k .marks) ∙ ap (λ n. removed-at (earlier (marked nb es) n) (mover-marked Fetched (marked nb es) (fetched-revoked-rule nb (marked nb es) s))) (sym (got .0))
+        ∙ fetched-revoked-kept f (struck s es) es h (got .2) (fetched-revoked-rule nb (marked nb es) s) (sym (ap (λ l. fetched-revoked-rule nb l s) (k .marks)) ∙ bridges-find-movers nb L .fetched-revoked rs s f k at w h))
+        (rising-lacking nb (Arrival f) (struck s es) es (got .2)) h;
+    taking-revoked = λ rs s t k at.
         let es = entries rs in
         let got = striking 0 s (Taking t) es (rising-journal es (k .order)) at in
         carries nb (taking-revoked-rows nb rs s) (struck s es)
-          (ap (λ l. taking-revoked-rows nb l s) (k .marks) ∙ ap (λ n. removed-at (earlier (marked nb es) n) (mover-marked Waiting (marked nb es) (taking-revoked-rule nb (marked nb es) s))) (sym (got .0))
-           ∙ taking-revoked-kept t (struck s es) es (k .served) (got .2) (taking-revoked-rule nb (marked nb es) s)
-               (sym (ap (λ l. taking-revoked-rule nb l s) (k .marks)) ∙ bridges-find-movers nb L .taking-revoked rs s t k at ∙ ap (λ n. taking-mover nb es n) (sym (got .0))))
-          (rising-lacking nb (Taking t) (struck s es) es (got .2)) (soundness-by-stock nb L .taking-struck es s t (k .order) (k .served) at) }
+        (ap (λ l. taking-revoked-rows nb l s) (k .marks) ∙ ap (λ n. removed-at (earlier (marked nb es) n) (mover-marked Waiting (marked nb es) (taking-revoked-rule nb (marked nb es) s))) (sym (got .0))
+        ∙ taking-revoked-kept t (struck s es) es (k .served) (got .2) (taking-revoked-rule nb (marked nb es) s)
+        (sym (ap (λ l. taking-revoked-rule nb l s) (k .marks)) ∙ bridges-find-movers nb L .taking-revoked rs s t k at ∙ ap (λ n. taking-mover nb es n) (sym (got .0))))
+        (rising-lacking nb (Taking t) (struck s es) es (got .2)) (soundness-by-stock nb L .taking-struck es s t (k .order) (k .served) at);
+  }

@@ -1,21 +1,20 @@
 -- Who is among some folders: on a rack, among the fetched, among the arrivals.
 use mathlib.Core.Path.{_≡_, refl, sym, ap, _∙_}
-use mathlib.Core.Bool.{Bool, true, false, cond, not, _||_}
+use mathlib.Core.Bool.{Bool, true, false, cond}
 use mathlib.Core.List.{List, [], _∷_, _++_}
 use mathlib.Core.Logic.{_⊎_, inl, inr}
-use Prim.Native.Nat.{ℕ, suc, _+_, _≤_, _<_}
+use Prim.Native.Nat.{ℕ, suc, _≤_}
 use native.Mathlib.Omega.{arith}
 use lib.Dec.{eqb}
-use Rattle.std.proofs.shelf.Tests.{eq-eqb, eqb-true, or-left, or-right, or-cases, cases-bool, both-ways}
-use Rattle.std.proofs.shelf.Ways.{tells}
+use Rattle.std.proofs.shelf.Tests.{eq-eqb, eqb-true, or-left, or-right, or-cases, both-ways}
 use Rattle.journal.specs.declared.folder.Folder.{Folder}
 use Rattle.journal.specs.declared.entry.Entry.{Entry}
 use Rattle.journal.specs.declared.entry.Entry.the-variants.{Arrival, Taking}
-use Rattle.journal.specs.Folders.{ahead, placed, has-stamp, in-order, ahead-of-all}
+use Rattle.journal.specs.Folders.{ahead, placed, has-stamp}
 use Rattle.journal.specs.Replay.{replay, waiting, fetched}
 use Rattle.bridges.specs.Racks.{Rising, gone}
 use Rattle.bridges.specs.Counting.{count}
-use Rattle.bridges.proofs.Counts.{arrivals, stamped, stamp-old, once, counted-has-stamp, has-stamp-counted}
+use Rattle.bridges.proofs.Counts.{arrivals, stamped, stamp-old, once, counted-has-stamp}
 
 -- f is one of these
 abbrev pub Among : {A : Type 0} → A → List A → Type 0
@@ -158,3 +157,18 @@ module _ {P : Type 0} (nb : P → P → Bool) where
   -- who was fetched is not waiting
   pub fetched-not-waiting : (n : ℕ) (es : List (Entry P)) (g : Folder P) → Rising n es → Among g (fetched nb es) → has-stamp (g .stamp) (waiting nb es) ≡ false
   fetched-not-waiting n es g r m = counted-has-stamp (g .stamp) (waiting nb es) (omega (arith, once nb (g .stamp) n es r, among-counted (stamped (g .stamp)) g (fetched nb es) (eq-eqb _ _ refl) m))
+
+  -- who waits, and who was fetched, arrived
+  pub waiting-arrived : (es : List (Entry P)) (f : Folder P) → Among f (waiting nb es) → Among f (arrivals es)
+  waiting-arrived es f m = go (among-start f es [] (inl m))
+    where
+      go : Among f [] ⊎ Among f (arrivals es) → Among f (arrivals es)
+      go (inl k) = elim k [ ]
+      go (inr k) = k
+
+  pub fetched-arrived : (es : List (Entry P)) (f : Folder P) → Among f (fetched nb es) → Among f (arrivals es)
+  fetched-arrived es f m = go (among-start f es [] (inr m))
+    where
+      go : Among f [] ⊎ Among f (arrivals es) → Among f (arrivals es)
+      go (inl k) = elim k [ ]
+      go (inr k) = k

@@ -1,18 +1,17 @@
 -- The mover's law, from one folder more.
 use mathlib.Core.Path.{_≡_, refl, sym, ap, _∙_, subst₂}
-use mathlib.Core.Bool.{Bool, true, false}
+use mathlib.Core.Bool.{Bool}
 use mathlib.Core.List.{List, [], _∷_, _++_}
-use Prim.Native.Nat.{ℕ, suc, _≤_, _<_}
+use Prim.Native.Nat.{ℕ, suc}
 use native.Mathlib.Omega.{arith}
-use Rattle.std.specs.declared.option.Option.{Option}
-use Rattle.std.specs.declared.option.Option.the-variants.{Some, None}
+use Rattle.std.specs.declared.option.Option.the-variants.{Some}
 use Rattle.std.proofs.shelf.Tests.{and-parts}
 use Rattle.journal.specs.declared.folder.Folder.{Folder}
 use Rattle.journal.specs.declared.entry.Entry.{Entry}
 use Rattle.journal.specs.declared.entry.Entry.the-variants.{Arrival, Taking}
 use Rattle.journal.specs.Folders.{placed, hindmost-of, hindmost, ahead-of-all, in-order}
-use Rattle.journal.specs.Replay.{stamp-of, replay, waiting, by-stamp, dated, entered, struck, folders-of, sound}
-use Rattle.journal.specs.Movers.{entry-at, arrival-mover, taking-mover}
+use Rattle.journal.specs.Replay.{replay, waiting, entered, struck, folders-of}
+use Rattle.journal.specs.Movers.{arrival-mover, taking-mover}
 use Rattle.bridges.specs.Racks.{Rising, Stands, Served, gone}
 use Rattle.bridges.specs.Movers.{One-apart, Arrival-moves, Taking-moves, Movers-law}
 use Rattle.bridges.proofs.Ahead.{Lawful}
@@ -26,9 +25,9 @@ module _ {P : Type 0} (nb : P → P → Bool) (L : Lawful nb) where
   arrival-between xs ys f o r k s =
       one-apart nb L (arrival-mover nb (xs ++ ys) f) (waiting nb (xs ++ ys)) (xs ++ Arrival f ∷ ys) (rising-append 0 (f .stamp) xs (Arrival f ∷ ys) r o (omega arith) (omega arith, k))
       (replay-append nb xs (Arrival f ∷ ys) []
-        ∙ one-more nb L ys (replay nb [] xs) f (stands-after nb L (suc (f .stamp)) xs ys r (older-later (f .stamp) xs o) k) (omega arith) (served-parts nb xs ys [] (served-sound _ s) .1)
-        ∙ ap (λ l. placed nb (hindmost-of nb f (folders-of l)) (replay nb (replay nb [] xs) ys)) (sym (fetches-from-append nb (f .stamp) xs ys [] o (rising-earlier _ _ ys (omega arith) k)))
-        ∙ ap (λ l. placed nb (arrival-mover nb (xs ++ ys) f) l) (sym (replay-append nb xs ys [])))
+      ∙ one-more nb L ys (replay nb [] xs) f (stands-after nb L (suc (f .stamp)) xs ys r (older-later (f .stamp) xs o) k) (omega arith) (served-parts nb xs ys [] (served-sound _ s) .1)
+      ∙ ap (λ l. placed nb (hindmost-of nb f (folders-of l)) (replay nb (replay nb [] xs) ys)) (sym (fetches-from-append nb (f .stamp) xs ys [] o (rising-earlier _ _ ys (omega arith) k)))
+      ∙ ap (λ l. placed nb (arrival-mover nb (xs ++ ys) f) l) (sym (replay-append nb xs ys [])))
 
   taking-between : (xs ys : List (Entry P)) (s : ℕ) → Older s xs → Rising 0 xs → Rising (suc s) ys → Taking-moves nb (xs ++ ys) (xs ++ Taking s ∷ ys) s
   taking-between xs ys s o r k h =
@@ -41,15 +40,17 @@ module _ {P : Type 0} (nb : P → P → Bool) (L : Lawful nb) where
       go (z ∷ rack) at st v =
           let m = hindmost-of nb z (gone nb rack ys) in
           let from : folders-of (Rattle.journal.specs.Replay.fetches-from s (Rattle.journal.specs.Replay.fetches nb [] (xs ++ Taking s ∷ ys))) ≡ z ∷ gone nb rack ys
-                = ap folders-of (fetches-from-append nb s xs (Taking s ∷ ys) [] o (omega arith, k)) ∙ ap (λ q. gone nb q (Taking s ∷ ys)) at in
+          = ap folders-of (fetches-from-append nb s xs (Taking s ∷ ys) [] o (omega arith, k)) ∙ ap (λ q. gone nb q (Taking s ∷ ys)) at in
           let having : waiting nb (xs ++ Taking s ∷ ys) ≡ replay nb rack ys = replay-append nb xs (Taking s ∷ ys) [] ∙ ap (λ q. replay nb q (Taking s ∷ ys)) at in
           let lacking : waiting nb (xs ++ ys) ≡ replay nb (z ∷ rack) ys = replay-append nb xs ys [] ∙ ap (λ q. replay nb q ys) at in
           let more : replay nb (z ∷ rack) ys ≡ placed nb m (replay nb rack ys)
-                = ap (λ q. replay nb q ys) (sym (placed-front nb z rack (and-parts (ahead-of-all nb z rack) (in-order nb rack) (st .order) .0)))
-                  ∙ one-more nb L ys rack z (stands-taking nb L z s rack ys st) (omega (arith, st .below .0, st .rising .0)) v in
-          (m, ap (hindmost nb) from,
-           one-apart nb L m (waiting nb (xs ++ Taking s ∷ ys)) (xs ++ ys) (rising-append 0 (suc s) xs ys r (older-later s xs o) (omega arith) k)
-           (lacking ∙ more ∙ ap (placed nb m) (sym having)))
+          = ap (λ q. replay nb q ys) (sym (placed-front nb z rack (and-parts (ahead-of-all nb z rack) (in-order nb rack) (st .order) .0)))
+          ∙ one-more nb L ys rack z (stands-taking nb L z s rack ys st) (omega (arith, st .below .0, st .rising .0)) v in (
+            m,
+            ap (hindmost nb) from,
+            one-apart nb L m (waiting nb (xs ++ Taking s ∷ ys)) (xs ++ ys) (rising-append 0 (suc s) xs ys r (older-later s xs o) (omega arith) k)
+                (lacking ∙ more ∙ ap (placed nb m) (sym having)),
+          )
 
   pub arrival-corrected : (f : Folder P) (lacking having : List (Entry P)) → Corrected 0 (Arrival f) lacking having → Arrival-moves nb lacking having f
   arrival-corrected f lacking having c =
@@ -61,8 +62,9 @@ module _ {P : Type 0} (nb : P → P → Bool) (L : Lawful nb) where
 
   pub movers-law : Movers-law nb
   movers-law = record {
-      waiting-order = λ es b. order-replay nb L 0 es [] tt (rising-journal es b) refl;
-      arrival-entered = λ es f b d. arrival-corrected f es (entered (Arrival f) es) (entering 0 (Arrival f) es (omega arith) (rising-journal es b) d);
-      arrival-struck = λ es s f b h. arrival-corrected f (struck s es) es (striking 0 s (Arrival f) es (rising-journal es b) h .2);
-      taking-entered = λ es s b d. taking-corrected s es (entered (Taking s) es) (entering 0 (Taking s) es (omega arith) (rising-journal es b) d);
-      taking-struck = λ es s t b h. let got = striking 0 s (Taking t) es (rising-journal es b) h in rw (got .0) at (taking-corrected t (struck s es) es (got .2)) }
+    waiting-order = λ es b. order-replay nb L 0 es [] tt (rising-journal es b) refl;
+    arrival-entered = λ es f b d. arrival-corrected f es (entered (Arrival f) es) (entering 0 (Arrival f) es (omega arith) (rising-journal es b) d);
+    arrival-struck = λ es s f b h. arrival-corrected f (struck s es) es (striking 0 s (Arrival f) es (rising-journal es b) h .2);
+    taking-entered = λ es s b d. taking-corrected s es (entered (Taking s) es) (entering 0 (Taking s) es (omega arith) (rising-journal es b) d);
+    taking-struck = λ es s t b h. let got = striking 0 s (Taking t) es (rising-journal es b) h in rw (got .0) at (taking-corrected t (struck s es) es (got .2));
+  }

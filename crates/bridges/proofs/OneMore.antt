@@ -1,8 +1,8 @@
 -- One folder more: the same entries from a rack, and from the rack with one folder more.
 use mathlib.Core.Path.{_≡_, refl, sym, ap, _∙_}
-use mathlib.Core.Bool.{Bool, true, false, cond, _&&_}
+use mathlib.Core.Bool.{Bool, true, false, cond}
 use mathlib.Core.List.{List, [], _∷_}
-use Prim.Native.Nat.{ℕ, suc, _≤_, _<_}
+use Prim.Native.Nat.{ℕ, suc, _<_}
 use native.Mathlib.Omega.{arith}
 use Rattle.std.specs.declared.option.Option.{Option}
 use Rattle.std.specs.declared.option.Option.the-variants.{Some, None}
@@ -11,7 +11,7 @@ use Rattle.journal.specs.declared.folder.Folder.{Folder}
 use Rattle.journal.specs.declared.entry.Entry.{Entry}
 use Rattle.journal.specs.declared.entry.Entry.the-variants.{Arrival, Taking}
 use Rattle.journal.specs.Folders.{ahead, ahead-of-all, in-order, placed, hindmost-of, rest}
-use Rattle.journal.specs.Replay.{replay, fetches, first-empty, folders-of}
+use Rattle.journal.specs.Replay.{replay}
 use Rattle.bridges.proofs.Ahead.{Lawful}
 use Rattle.bridges.specs.Racks.{Stands, Served, gone}
 use Rattle.bridges.proofs.Racks.{stands-arrival, stands-taking, placed-swap, placed-front}

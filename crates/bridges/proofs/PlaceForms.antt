@@ -1,35 +1,32 @@
 -- What the places found stand for.
 use mathlib.Core.Path.{_≡_, refl, sym, ap, ap₂, subst, _∙_}
-use mathlib.Core.Bool.{Bool, true, false, cond, _||_, _&&_}
-use mathlib.Core.List.{List, [], _∷_, List·Memᴰ}
+use mathlib.Core.Bool.{Bool, true, false}
+use mathlib.Core.List.{List, [], _∷_}
 use mathlib.Core.Logic.{_⊎_, inl, inr}
-use Prim.Native.Nat.{ℕ, zero, suc, _+_, _-_, _≤_, _<_, min}
+use Prim.Native.Nat.{ℕ, zero, suc, _+_, _-_, _≤_}
 use native.Mathlib.Omega.{arith}
-use lib.Dec.{eqb, ltb}
+use lib.Dec.{eqb}
 use lib.ListN.{length, take, drop, length-map}
-use lib.IntN.{ℤ, pos}
+use lib.IntN.{pos}
 use lib.Signed.{leZ}
-use Rattle.std.specs.declared.option.Option.{Option}
 use Rattle.std.specs.declared.option.Option.the-variants.{Some, None}
 use Rattle.std.specs.Options.{mapped}
 use Rattle.std.specs.shelf.Maps.{nth}
-use Rattle.std.proofs.shelf.Tests.{both-ways, and-parts, or-cases, lt-ltb, le-ltb, eqb-true, cases-bool}
+use Rattle.std.proofs.shelf.Tests.{both-ways, and-parts, or-cases, lt-ltb, le-ltb, eqb-true}
 use Rattle.std.proofs.shelf.Signed.{ints}
 use Rattle.journal.specs.declared.folder.Folder.{Folder}
-use Rattle.journal.specs.declared.entry.Entry.{Entry}
-use Rattle.journal.specs.declared.entry.Entry.the-variants as entry
 use Rattle.journal.specs.declared.row.Row.{Row}
 use Rattle.journal.specs.declared.row.Row.the-variants.{Arrival, Taking}
 use Rattle.journal.specs.declared.row.Mark.{Mark}
 use Rattle.journal.specs.declared.row.Mark.the-variants.{Waiting, Fetched}
-use Rattle.journal.specs.Folders.{ahead, ahead-of-all, in-order, Foremost, Hindmost, hindmost-of, hindmost, foremost-of, foremost}
-use Rattle.journal.specs.Replay.{stamp-of, by-stamp, dated, waiting}
-use Rattle.journal.specs.Rows.{entry-of, entries, balance, Bridge, marked}
-use Rattle.journal.specs.Searches.{earlier, place-in, low, least-from, greatest-to, first-low-stock, first-low-balance, last-low-balance, with-marked, folders-marked, hindmost-fetched-from, foremost-waiting-before}
+use Rattle.journal.specs.Folders.{ahead, ahead-of-all, in-order, Foremost, hindmost-of, hindmost, foremost-of, foremost}
+use Rattle.journal.specs.Replay.{stamp-of, dated, waiting}
+use Rattle.journal.specs.Rows.{entry-of, entries, balance, Bridge}
+use Rattle.journal.specs.Searches.{earlier, place-in, low, least-from, greatest-to, folders-marked}
 use Rattle.bridges.specs.Racks.{Rising}
 use Rattle.bridges.specs.Counting.{count, rack-at, will-be-fetched}
 use Rattle.bridges.specs.Rules.{Kept}
-use Rattle.bridges.specs.Places.{Read-as-count, Places-told}
+use Rattle.bridges.specs.Places.{Places-told}
 use Rattle.bridges.proofs.Ahead.{Lawful, ahead-asymmetric, ahead-irreflexive}
 use Rattle.bridges.proofs.Racks.{rising-earlier}
 use Rattle.bridges.proofs.Counts.{arrivals}
@@ -38,7 +35,7 @@ use Rattle.bridges.proofs.Journals.{rising-journal, served-sound, order-replay
 use Rattle.bridges.proofs.Bridges.{member, among, counting}
 use Rattle.bridges.proofs.Extremes.{Apart, Last, First, ahead-of-each, neither-ahead, hindmost-last, foremost-first}
 use Rattle.bridges.proofs.Found.{least-found, greatest-found}
-use Rattle.bridges.proofs.Stocks.{earlier-none}
+use Rattle.bridges.proofs.Stocks.{earlier-none, earlier-within}
 use Rattle.bridges.proofs.Rules.{low-at-end}
 
 module _ {A : Type 0} where
@@ -100,14 +97,6 @@ module _ {P : Type 0} where
       go (inl e) ih = (x, inl refl, eqb-true _ _ e)
       go (inr k) ih = let got = ih k in (got .0, inr (got .1), got .2)
 
-  earlier-within : (rs : List (Row P)) (s : ℕ) → earlier rs s ≤ length rs
-  earlier-within [] s = omega arith
-  earlier-within (x ∷ rs) s = go (ltb (stamp-of (entry-of x)) s) (earlier-within rs s)
-    where
-      go : (b : Bool) → earlier rs s ≤ length rs → cond b (1 + earlier rs s) (earlier rs s) ≤ suc (length rs)
-      go true ih = omega arith
-      go false ih = omega arith
-
   -- a folder with a mark is of an arrival's row with that mark
   fetched-row : (f : Folder P) (rs : List (Row P)) → Among f (folders-marked Fetched rs) → Among (Arrival f Fetched) rs
   fetched-row f [] m = elim m [ ]
@@ -163,7 +152,7 @@ module _ {P : Type 0} (nb : P → P → Bool) (L : Lawful nb) where
   foremost-absent (f ∷ fs) rs e = absurd (let z : _≡_ {A = ℕ} 0 1 = cc in omega arith)
 
   -- none ahead of it means that it is ahead of the others
-  first-foremost : (m : Folder P) (fs : List (Folder P)) → Apart fs → First nb m fs → Foremost nb m fs
+  pub first-foremost : (m : Folder P) (fs : List (Folder P)) → Apart fs → First nb m fs → Foremost nb m fs
   first-foremost m fs one a = record { among = member m fs (a .0); ahead-of-others = λ g k. other g (among g fs k) (ahead nb m g) refl }
     where
       other : (g : Folder P) → Among g fs → (b : Bool) → ahead nb m g ≡ b → (g ≡ m) ⊎ (ahead nb m g ≡ true)
@@ -185,40 +174,44 @@ module _ {P : Type 0} (nb : P → P → Bool) (L : Lawful nb) where
 
   pub places-told : Places-told nb
   places-told = record {
-      stamp-found = λ rs s b d. let got = dated-row s rs d in (got .0, subst (λ n. nth rs (earlier rs n) ≡ Some (got .0)) (got .2) (row-at-place 0 rs (got .0) (rising-journal (entries rs) b) (got .1)), got .2);
-      row-found = λ rs k r b e. place-of-row 0 rs k r (rising-journal (entries rs) b) e;
-      within = earlier-within;
-      above-count = λ rs p le. let e : place-in rs p ≡ place-in rs (length rs) = omega arith in record {
-        stock-from = ap (λ q. least-from (low (Rattle.journal.specs.Rows.stock rs)) q (suc (length rs - q))) e;
-        balance-from = ap (λ q. least-from (low (balance rs)) q (suc (length rs - q))) e;
-        balance-to = ap (greatest-to (low (balance rs))) e;
-        hindmost-from = ap (λ q. mapped (λ (f : Folder P). earlier rs (f .stamp)) (hindmost nb (folders-marked Fetched (drop q rs)))) e;
-        foremost-before = ap (λ q. mapped (λ (f : Folder P). earlier rs (f .stamp)) (foremost nb (folders-marked Waiting (take q rs)))) e };
-      hindmost-place = λ rs q k b e.
+    stamp-found = λ rs s b d. let got = dated-row s rs d in (got .0, subst (λ n. nth rs (earlier rs n) ≡ Some (got .0)) (got .2) (row-at-place 0 rs (got .0) (rising-journal (entries rs) b) (got .1)), got .2);
+    row-found = λ rs k r b e. place-of-row 0 rs k r (rising-journal (entries rs) b) e;
+    within = earlier-within;
+    above-count = λ rs p le. let e : place-in rs p ≡ place-in rs (length rs) = omega arith in record {
+      stock-from = ap (λ q. least-from (low (Rattle.journal.specs.Rows.stock rs)) q (suc (length rs - q))) e;
+      balance-from = ap (λ q. least-from (low (balance rs)) q (suc (length rs - q))) e;
+      balance-to = ap (greatest-to (low (balance rs))) e;
+      hindmost-from = ap (λ q. mapped (λ (f : Folder P). earlier rs (f .stamp)) (hindmost nb (folders-marked Fetched (drop q rs)))) e;
+      foremost-before = ap (λ q. mapped (λ (f : Folder P). earlier rs (f .stamp)) (foremost nb (folders-marked Waiting (take q rs)))) e;
+    };
+    hindmost-place = λ rs q k b e.
         let fs = folders-marked Fetched (drop (place-in rs q) rs) in
         let got = hindmost-at fs rs k e in
         let m = got .0 in
         let at = row-at-place 0 rs (Arrival m Fetched) (rising-journal (entries rs) b) (among-drop (place-in rs q) (Arrival m Fetched) rs (fetched-row m (drop (place-in rs q) rs) (got .2 .0))) in
         (m, subst (λ n. nth rs n ≡ Some (Arrival m Fetched)) (got .1) at, record { among = member m fs (got .2 .0); ahead-of-none = λ g i. got .2 .1 g (among g fs i) });
-      hindmost-none = λ rs q e. hindmost-absent (folders-marked Fetched (drop (place-in rs q) rs)) rs e;
-      foremost-place = λ rs q k b e.
+    hindmost-none = λ rs q e. hindmost-absent (folders-marked Fetched (drop (place-in rs q) rs)) rs e;
+    foremost-place = λ rs q k b e.
         let r = rising-journal (entries rs) b in
         let fs = folders-marked Waiting (take (place-in rs q) rs) in
         let got = foremost-at fs rs k e in
         let m = got .0 in
         let there : (f : Folder P) → Among f fs → Among (Arrival f Waiting) rs = λ f i. among-take (place-in rs q) (Arrival f Waiting) rs (waiting-row f (take (place-in rs q) rs) i) in
-        let at = row-at-place 0 rs (Arrival m Waiting) r (there m (got .2 .0)) in
-        (m, subst (λ n. nth rs n ≡ Some (Arrival m Waiting)) (got .1) at,
-         first-foremost m fs (λ f g i j s. same-stamp 0 (entries rs) f g r s (row-arrived f Waiting rs (there f i)) (row-arrived g Waiting rs (there g j))) (got .2));
-      foremost-none = λ rs q e. foremost-absent (folders-marked Waiting (take (place-in rs q) rs)) rs e;
-      last-bridge = λ rs p k. let got = greatest-found (low (balance rs)) (place-in rs p) refl in (got .0, got .1, low-bridge rs (got .0) k (omega (arith, got .2 .before)) (got .2 .passes));
-      first-bridge = λ rs p k.
+        let at = row-at-place 0 rs (Arrival m Waiting) r (there m (got .2 .0)) in (
+          m,
+          subst (λ n. nth rs n ≡ Some (Arrival m Waiting)) (got .1) at,
+          first-foremost m fs (λ f g i j s. same-stamp 0 (entries rs) f g r s (row-arrived f Waiting rs (there f i)) (row-arrived g Waiting rs (there g j))) (got .2),
+        );
+    foremost-none = λ rs q e. foremost-absent (folders-marked Waiting (take (place-in rs q) rs)) rs e;
+    last-bridge = λ rs p k. let got = greatest-found (low (balance rs)) (place-in rs p) refl in (got .0, got .1, low-bridge rs (got .0) k (omega (arith, got .2 .before)) (got .2 .passes));
+    first-bridge = λ rs p k.
         let q = place-in rs p in
         let end : q + (length rs - q) ≡ length rs = omega arith in
         let got = least-found (low (balance rs)) (length rs - q) q (rw end (low-last rs k)) in
         (got .0, got .1, low-bridge rs (got .0) k (omega (arith, got .3)) (got .2 .passes));
-      waiting-at = λ es k f b e. (member f (waiting nb es) (at-among k f (waiting nb es) e), ahead-at k f (waiting nb es) (order-replay nb L 0 es [] tt (rising-journal es b) refl) e);
-      waiting-with = λ es k f b m c.
+    waiting-at = λ es k f b e. (member f (waiting nb es) (at-among k f (waiting nb es) e), ahead-at k f (waiting nb es) (order-replay nb L 0 es [] tt (rising-journal es b) refl) e);
+    waiting-with = λ es k f b m c.
         let got = among-at f (waiting nb es) (among f (waiting nb es) m) in
         let e : got .0 ≡ k = sym (ahead-at (got .0) f (waiting nb es) (order-replay nb L 0 es [] tt (rising-journal es b) refl) (got .1)) ∙ c in
-        subst (λ n. nth (waiting nb es) n ≡ Some f) e (got .1) }
+        subst (λ n. nth (waiting nb es) n ≡ Some f) e (got .1);
+  }

@@ -1,11 +1,11 @@
 -- The rack at a place of a journal, and the step from a place to the next.
 use mathlib.Core.Path.{_≡_, refl, sym, ap, _∙_}
-use mathlib.Core.Bool.{Bool, true, false}
-use mathlib.Core.List.{List, [], _∷_, _++_, map}
-use mathlib.Core.Logic.{_⊎_, inl, inr}
+use mathlib.Core.Bool.{Bool}
+use mathlib.Core.List.{List, [], _∷_, _++_}
 use Prim.Native.Nat.{ℕ, zero, suc, _≤_, _<_}
 use native.Mathlib.Omega.{arith}
-use lib.ListN.{length, take, drop, take-append-drop}
+use lib.ListN.{length, take, drop, take-append-drop, length-append}
+use lib.Seq.{take-append-seam, drop-append-seam}
 use Rattle.journal.specs.declared.folder.Folder.{Folder}
 use Rattle.journal.specs.declared.entry.Entry.{Entry}
 use Rattle.journal.specs.declared.entry.Entry.the-variants.{Arrival, Taking}
@@ -18,7 +18,31 @@ use Rattle.bridges.proofs.Racks.{stands-arrival, stands-taking}
 use Rattle.bridges.proofs.Journals.{replay-append, served-parts}
 use Rattle.bridges.proofs.Members.{Among, among-left, among-right}
 
+-- the seam of a journal in two parts
+module _ {P : Type 0} where
+  pub drop-seam : (es xs ys : List (Entry P)) → es ≡ xs ++ ys → drop (length xs) es ≡ ys
+  drop-seam es xs ys e = ap (drop (length xs)) e ∙ drop-append-seam xs ys
+
+  pub length-seam : (es xs ys : List (Entry P)) → es ≡ xs ++ ys → length xs ≤ length es
+  length-seam es xs ys e = omega (arith, ap length e, length-append xs ys)
+
+  length-next : (xs : List (Entry P)) (a : Entry P) → length (xs ++ a ∷ []) ≡ suc (length xs)
+  length-next xs a = let n = length-append xs (a ∷ []) in omega arith
+
+  next-seam : (es xs ys : List (Entry P)) (a : Entry P) → es ≡ xs ++ a ∷ ys → es ≡ (xs ++ a ∷ []) ++ ys
+  next-seam es [] ys a e = e
+  next-seam es (x ∷ xs) ys a e = e ∙ ap (λ l. x ∷ l) (next-seam (xs ++ a ∷ ys) xs ys a refl)
+
+  pub drop-next : (es xs ys : List (Entry P)) (a : Entry P) → es ≡ xs ++ a ∷ ys → drop (suc (length xs)) es ≡ ys
+  drop-next es xs ys a e = ap (λ n. drop n es) (sym (length-next xs a)) ∙ drop-seam es (xs ++ a ∷ []) ys (next-seam es xs ys a e)
+
 module _ {P : Type 0} (nb : P → P → Bool) where
+  pub rack-seam : (es xs ys : List (Entry P)) → es ≡ xs ++ ys → rack-at nb es (length xs) ≡ replay nb [] xs
+  rack-seam es xs ys e = ap (λ l. waiting nb (take (length xs) l)) e ∙ ap (waiting nb) (take-append-seam xs ys)
+
+  pub rack-next : (es xs ys : List (Entry P)) (a : Entry P) → es ≡ xs ++ a ∷ ys → rack-at nb es (suc (length xs)) ≡ rack-after nb (replay nb [] xs) a
+  rack-next es xs ys a e = ap (rack-at nb es) (sym (length-next xs a)) ∙ rack-seam es (xs ++ a ∷ []) ys (next-seam es xs ys a e) ∙ replay-append nb xs (a ∷ []) []
+
   pub gone-append : (xs ys : List (Entry P)) (rack : List (Folder P)) → gone nb rack (xs ++ ys) ≡ gone nb rack xs ++ gone nb (replay nb rack xs) ys
   gone-append [] ys rack = refl
   gone-append (Arrival f ∷ xs) ys rack = gone-append xs ys (placed nb f rack)

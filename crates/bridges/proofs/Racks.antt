@@ -1,20 +1,14 @@
 -- Racks in order, and what an entry makes of them.
-use mathlib.Core.Path.{_≡_, refl, sym, ap, _∙_}
-use mathlib.Core.Bool.{Bool, true, false, cond, _&&_}
+use mathlib.Core.Path.{_≡_, refl}
+use mathlib.Core.Bool.{Bool, true, false, cond}
 use mathlib.Core.List.{List, [], _∷_}
-use mathlib.Core.Logic.{_⊎_, inl, inr}
 use Prim.Native.Nat.{ℕ, suc, _≤_, _<_}
 use native.Mathlib.Omega.{arith}
-use lib.Dec.{ltb, leb, eqb}
-use Rattle.std.specs.declared.option.Option.{Option}
-use Rattle.std.specs.declared.option.Option.the-variants.{Some, None}
-use Rattle.std.proofs.shelf.Tests.{and-parts, and-from, cond-true, cond-false}
-use Rattle.std.proofs.shelf.Ways.{tells}
+use Rattle.std.proofs.shelf.Tests.{and-parts, and-from, cond-true}
 use Rattle.journal.specs.declared.folder.Folder.{Folder}
 use Rattle.journal.specs.declared.entry.Entry.{Entry}
 use Rattle.journal.specs.declared.entry.Entry.the-variants.{Arrival, Taking}
-use Rattle.journal.specs.Folders.{ahead, ahead-of-all, in-order, placed, hindmost-of, rest}
-use Rattle.journal.specs.Replay.{stamp-of, replay, fetches, first-empty, folders-of}
+use Rattle.journal.specs.Folders.{ahead, ahead-of-all, in-order, placed}
 use Rattle.bridges.specs.Racks.{Below, Rising, Stands}
 use Rattle.bridges.proofs.Ahead.{Lawful, ahead-asymmetric, ahead-transitive, ahead-total}
 
@@ -78,14 +72,16 @@ module _ {P : Type 0} (nb : P → P → Bool) (L : Lawful nb) where
 
   abbrev pub stands-arrival : (f : Folder P) (rack : List (Folder P)) (es : List (Entry P)) → Stands nb rack (Arrival f ∷ es) → Stands nb (placed nb f rack) es
   stands-arrival f rack es st = record {
-      bound = suc (f .stamp);
-      below = below-placed nb (suc (f .stamp)) f rack (omega arith) (below-later (st .bound) (suc (f .stamp)) rack (omega (arith, st .rising .0)) (st .below));
-      order = in-order-placed (st .bound) f rack (st .below) (st .rising .0) (st .order);
-      rising = st .rising .1 }
+    bound = suc (f .stamp);
+    below = below-placed nb (suc (f .stamp)) f rack (omega arith) (below-later (st .bound) (suc (f .stamp)) rack (omega (arith, st .rising .0)) (st .below));
+    order = in-order-placed (st .bound) f rack (st .below) (st .rising .0) (st .order);
+    rising = st .rising .1;
+  }
 
   abbrev pub stands-taking : (y : Folder P) (s : ℕ) (rack : List (Folder P)) (es : List (Entry P)) → Stands nb (y ∷ rack) (Taking s ∷ es) → Stands nb rack es
   stands-taking y s rack es st = record {
-      bound = suc s;
-      below = below-later (st .bound) (suc s) rack (omega (arith, st .rising .0)) (st .below .1);
-      order = and-parts (ahead-of-all nb y rack) (in-order nb rack) (st .order) .1;
-      rising = st .rising .1 }
+    bound = suc s;
+    below = below-later (st .bound) (suc s) rack (omega (arith, st .rising .0)) (st .below .1);
+    order = and-parts (ahead-of-all nb y rack) (in-order nb rack) (st .order) .1;
+    rising = st .rising .1;
+  }

@@ -1,41 +1,37 @@
 -- The bridge rules find the movers.
-use mathlib.Core.Path.{_≡_, refl, sym, ap, ap₂, subst, subst₂, _∙_}
-use mathlib.Core.Bool.{Bool, true, false, cond, not}
-use mathlib.Core.List.{List, [], _∷_, _++_, map}
+use mathlib.Core.Path.{_≡_, refl, sym, ap, subst, _∙_}
+use mathlib.Core.Bool.{Bool, true, false, cond}
+use mathlib.Core.List.{List, [], _∷_, map}
 use mathlib.Core.Logic.{_⊎_, inl, inr}
-use Prim.Native.Nat.{ℕ, zero, suc, _+_, _-_, _≤_, _<_, min}
+use Prim.Native.Nat.{ℕ, suc, _+_, _-_, _≤_, _<_}
 use native.Mathlib.Omega.{arith}
-use lib.ListN.{length, take, drop, length-map, length-append}
-use lib.Seq.{take-length, take-append-seam, drop-append-seam}
-use lib.IntN.{ℤ, pos}
+use lib.ListN.{length, take, drop, length-map}
+use lib.Seq.{take-length}
+use lib.IntN.{pos}
 use Rattle.std.specs.declared.option.Option.{Option}
 use Rattle.std.specs.declared.option.Option.the-variants.{Some, None}
-use Rattle.std.specs.Options.{mapped, flattened}
+use Rattle.std.specs.Options.{mapped}
 use Rattle.std.proofs.shelf.Tests.{both-ways, not-from-true, and-parts}
 use Rattle.std.proofs.shelf.Lists.{take-map, drop-map}
 use Rattle.journal.specs.declared.folder.Folder.{Folder}
 use Rattle.journal.specs.declared.entry.Entry.{Entry}
-use Rattle.journal.specs.declared.entry.Entry.the-variants.{Arrival, Taking}
 use Rattle.journal.specs.declared.row.Row.{Row}
 use Rattle.journal.specs.declared.row.Mark.the-variants.{Waiting, Fetched}
-use Rattle.journal.specs.Folders.{ahead, ahead-of-all, in-order, placed, has-stamp, hindmost-of, hindmost, foremost}
-use Rattle.journal.specs.Replay.{stamp-of, replay, rack-after, waiting, fetched, sound, by-stamp, dated, entered, struck}
-use Rattle.journal.specs.Rows.{entries, balance, row-of, marked, Marks-agree}
-use Rattle.journal.specs.Searches.{earlier, place-in, low, least-from, greatest-to, first-low-balance, last-low-balance, folders-marked, hindmost-fetched-from, foremost-waiting-before}
-use Rattle.journal.specs.Movers.{entry-at, fetched-from, arrival-mover, taking-mover}
-use Rattle.bridges.specs.Racks.{Rising, Stands, Served, gone}
+use Rattle.journal.specs.Folders.{ahead, ahead-of-all, in-order, has-stamp, hindmost-of, hindmost, foremost}
+use Rattle.journal.specs.Replay.{replay, waiting}
+use Rattle.journal.specs.Rows.{balance, row-of, marked}
+use Rattle.journal.specs.Searches.{earlier, place-in, low, least-from, greatest-to, first-low-balance, folders-marked, hindmost-fetched-from, foremost-waiting-before}
+use Rattle.bridges.specs.Racks.{Rising, Served, gone}
 use Rattle.bridges.specs.Counting.{count, rack-at}
-use Rattle.bridges.specs.Movers.{One-apart}
-use Rattle.bridges.specs.Rules.{and-then, folder-at, hinder, hindmost-since-bridge, foremost-before-bridge, arrival-rule, taking-rule, fetched-revoked-rule, taking-revoked-rule, Kept, Bridges-find-movers}
+use Rattle.bridges.specs.Rules.{and-then, folder-at, hinder, hindmost-since-bridge, foremost-before-bridge}
 use Rattle.bridges.proofs.Ahead.{Lawful, ahead-asymmetric, ahead-transitive, ahead-cotransitive}
-use Rattle.bridges.proofs.Counts.{arrivals, one-apart}
-use Rattle.bridges.proofs.Members.{Among, among-start, among-end, among-has-stamp, none-counted, same-stamp, fetched-not-waiting, placed-among, among-placed}
-use Rattle.bridges.proofs.Journals.{Older, Corrected, entering, striking, rising-journal, rising-append, older-later, replay-append, served-sound, fetches-from-append}
+use Rattle.bridges.proofs.Counts.{arrivals}
+use Rattle.bridges.proofs.Members.{Among, among-start, among-end, among-has-stamp, none-counted, same-stamp, fetched-not-waiting, waiting-arrived, fetched-arrived}
 use Rattle.bridges.proofs.Places.{waiting-at, fetched-later, fetched-earlier, stands-at}
 use Rattle.bridges.proofs.Sums.{missing, balance-at}
 use Rattle.bridges.proofs.Bridges.{Safe-at, Doomed-at, Settled, settled, low-safe, high-doomed}
-use Rattle.bridges.proofs.Extremes.{Apart, Last, First, ahead-of-each, hindmost-last, hindmost-alike, foremost-alike}
-use Rattle.bridges.proofs.Found.{Least, Greatest, least-found, greatest-found}
+use Rattle.bridges.proofs.Extremes.{First, ahead-of-each, hindmost-last, hindmost-alike, foremost-alike}
+use Rattle.bridges.proofs.Found.{Greatest, least-found, greatest-found}
 use Rattle.bridges.proofs.LastBridge.{later, later-sooner, sooner-later}
 use Rattle.bridges.proofs.Marked.{entries-of-rows, waiting-marked, marked-waiting, fetched-marked, marked-fetched, arrival-place}
 
@@ -59,27 +55,6 @@ module _ {P : Type 0} (nb : P → P → Bool) (L : Lawful nb) where
 
     rows-length : length rows ≡ length es
     rows-length = length-map es (row-of (waiting nb es))
-
-    fetched-arrived : (f : Folder P) → Among f (fetched nb es) → Among f (arrivals es)
-    fetched-arrived f m = go (among-start nb f es [] (inr m))
-      where
-        go : Among f [] ⊎ Among f (arrivals es) → Among f (arrivals es)
-        go (inl k) = elim k [ ]
-        go (inr k) = k
-
-    waiting-arrived : (f : Folder P) → Among f (waiting nb es) → Among f (arrivals es)
-    waiting-arrived f m = go (among-start nb f es [] (inl m))
-      where
-        go : Among f [] ⊎ Among f (arrivals es) → Among f (arrivals es)
-        go (inl k) = elim k [ ]
-        go (inr k) = k
-
-    standing-arrived : (j : ℕ) (f : Folder P) → Among f (rack-at nb es j) → Among f (arrivals (take j es))
-    standing-arrived j f m = go (among-start nb f (take j es) [] (inl m))
-      where
-        go : Among f [] ⊎ Among f (arrivals (take j es)) → Among f (arrivals (take j es))
-        go (inl k) = elim k [ ]
-        go (inr k) = k
 
     -- the fetched arrivals from a bridge on are those who are fetched after it
     arrived-later : (b : ℕ) → (f : Folder P) → Among f (folders-marked Fetched (drop b rows)) → Among f (later nb es b)
@@ -112,7 +87,7 @@ module _ {P : Type 0} (nb : P → P → Bool) (L : Lawful nb) where
     standing-marked b safe f m = rw (take-map (row-of (waiting nb es)) b es) (go (settled nb es b f r m))
       where
         go : Settled nb es b f → Among f (folders-marked Waiting (map (row-of (waiting nb es)) (take b es)))
-        go (inl k) = waiting-marked (waiting nb es) (take b es) f (standing-arrived b f m) (k .0)
+        go (inl k) = waiting-marked (waiting nb es) (take b es) f (waiting-arrived nb (take b es) f m) (k .0)
         go (inr k) = absurd (safe f m (k .1))
 
     -- the folder at the place of an arrival
@@ -138,7 +113,7 @@ module _ {P : Type 0} (nb : P → P → Bool) (L : Lawful nb) where
         go got =
             let b = got .0 in
             let safe = low-safe nb es b r v (got .2 .passes) in
-            let arrived : (f : Folder P) → Among f (folders-marked Fetched (drop b rows)) → Among f (arrivals es) = λ f m. fetched-arrived f (fetched-later nb es b f (arrived-later b f m)) in
+            let arrived : (f : Folder P) → Among f (folders-marked Fetched (drop b rows)) → Among f (arrivals es) = λ f m. fetched-arrived nb es f (fetched-later nb es b f (arrived-later b f m)) in
             let here : place-in rows p ≡ p = omega (arith, rows-length) in
             let there : place-in rows b ≡ b = omega (arith, rows-length, got .2 .before) in
             let d = p - b in
@@ -148,13 +123,13 @@ module _ {P : Type 0} (nb : P → P → Bool) (L : Lawful nb) where
             ∙ ap (λ q. and-then (mapped (λ (f : Folder P). earlier rows (f .stamp)) (hindmost nb (folders-marked Fetched (drop q rows)))) (folder-at rows)) there
             ∙ found-at-place (hindmost nb (folders-marked Fetched (drop b rows))) (λ m e. hindmost-arrived (folders-marked Fetched (drop b rows)) m arrived e)
             ∙ hindmost-alike nb L (folders-marked Fetched (drop b rows)) (later nb es p) (λ f g a c e. same-stamp 0 es f g r e (arrived f a) (arrived g c))
-                (λ g m. later-arrived b safe g (later-sooner nb L es r d b p sum le g m))
-                (λ f m. sooner-later nb L es r d b p sum le (λ i x y. high-doomed nb es i r v (got .2 .none-after i x y)) f (arrived-later b f m))
+            (λ g m. later-arrived b safe g (later-sooner nb L es r d b p sum le g m))
+            (λ f m. sooner-later nb L es r d b p sum le (λ i x y. high-doomed nb es i r v (got .2 .none-after i x y)) f (arrived-later b f m))
 
     pub low-at-end : low (balance rows) (length es) ≡ true
     low-at-end =
         let none : count (missing nb (waiting nb es)) (rack-at nb es (length es)) ≡ 0
-              = none-counted (missing nb (waiting nb es)) (rack-at nb es (length es)) (λ f m. not-from-true _ (among-has-stamp f (waiting nb es) (rw (take-length es) at m))) in
+        = none-counted (missing nb (waiting nb es)) (rack-at nb es (length es)) (λ f m. not-from-true _ (among-has-stamp f (waiting nb es) (rw (take-length es) at m))) in
         rw (balance-at nb es r v (length es) ∙ ap pos none) refl
 
     -- the first bridge from a place
@@ -171,13 +146,16 @@ module _ {P : Type 0} (nb : P → P → Bool) (L : Lawful nb) where
         let n = length es - q in
         let end : q + n ≡ length es = omega arith in
         let size : length rows - q ≡ n = omega (arith, rows-length) in
-        let got = least-found (low (balance rows)) n q (rw end low-at-end) in
-        (got .0, record {
-          found = ap (λ x. least-from (low (balance rows)) x (suc (length rows - x))) here ∙ ap (λ x. least-from (low (balance rows)) q (suc x)) size ∙ got .1;
-          after = got .2 .after;
-          within = omega (arith, got .3);
-          safe = low-safe nb es (got .0) r v (got .2 .passes);
-          doomed = λ i x y. high-doomed nb es i r v (got .2 .none-before i x y) })
+        let got = least-found (low (balance rows)) n q (rw end low-at-end) in (
+          got .0,
+          record {
+            found = ap (λ x. least-from (low (balance rows)) x (suc (length rows - x))) here ∙ ap (λ x. least-from (low (balance rows)) q (suc x)) size ∙ got .1;
+            after = got .2 .after;
+            within = omega (arith, got .3);
+            safe = low-safe nb es (got .0) r v (got .2 .passes);
+            doomed = λ i x y. high-doomed nb es i r v (got .2 .none-before i x y);
+          },
+        )
 
     -- before the first bridge from a place the foremost waiting folder is the first one on the rack there
     pub before-bridge : (q b : ℕ) → First-bridge q b → (h : Folder P) (others : List (Folder P)) → rack-at nb es b ≡ h ∷ others → foremost-before-bridge nb rows q ≡ Some h
@@ -187,9 +165,9 @@ module _ {P : Type 0} (nb : P → P → Bool) (L : Lawful nb) where
         ap (λ o. and-then o (λ c. and-then (foremost-waiting-before nb rows c) (folder-at rows))) (fb .found)
         ∙ ap (λ x. and-then (mapped (λ (f : Folder P). earlier rows (f .stamp)) (foremost nb (folders-marked Waiting (take x rows)))) (folder-at rows)) there
         ∙ ap (λ o. and-then (mapped (λ (f : Folder P). earlier rows (f .stamp)) o) (folder-at rows))
-            (foremost-alike nb L (folders-marked Waiting (take b rows)) h others (λ f g a c e. same-stamp 0 es f g r e (waiting-arrived f (standing f a)) (waiting-arrived g (standing g c)))
-              first (λ f m. standing-marked b (fb .safe) f (rw at m)) (λ f m. rw at at (arrived-standing b f m)))
-        ∙ at-place h (waiting-arrived h (waits h (rw at (inl refl))))
+        (foremost-alike nb L (folders-marked Waiting (take b rows)) h others (λ f g a c e. same-stamp 0 es f g r e (waiting-arrived nb es f (standing f a)) (waiting-arrived nb es g (standing g c)))
+        first (λ f m. standing-marked b (fb .safe) f (rw at m)) (λ f m. rw at at (arrived-standing b f m)))
+        ∙ at-place h (waiting-arrived nb es h (waits h (rw at (inl refl))))
       where
         waits : (f : Folder P) → Among f (rack-at nb es b) → Among f (waiting nb es)
         waits f m = go (settled nb es b f r m)

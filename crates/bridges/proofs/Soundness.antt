@@ -1,30 +1,31 @@
 -- Which corrections keep a journal sound, and what lifting a folder off that is never fetched changes.
-use mathlib.Core.Path.{_≡_, refl, sym, ap, _∙_, subst₂}
+use mathlib.Core.Path.{_≡_, refl, sym, ap, _∙_}
 use mathlib.Core.Bool.{Bool, true, false, cond}
 use mathlib.Core.List.{List, [], _∷_, _++_}
-use mathlib.Core.Logic.{_⊎_, inl, inr}
-use Prim.Native.Nat.{ℕ, zero, suc, _≤_, _<_}
+use mathlib.Core.Logic.{inl, inr}
+use Prim.Native.Nat.{ℕ, suc, _≤_, _<_}
 use native.Mathlib.Omega.{arith}
-use Rattle.std.specs.declared.option.Option.{Option}
-use Rattle.std.specs.declared.option.Option.the-variants.{Some, None}
+use lib.ListN.{length}
+use Rattle.std.specs.declared.option.Option.the-variants.{Some}
+use Rattle.journal.specs.Movers.{entry-at}
 use Rattle.std.proofs.shelf.Tests.{and-parts, both-ways}
 use Rattle.journal.specs.declared.folder.Folder.{Folder}
 use Rattle.journal.specs.declared.entry.Entry.{Entry}
 use Rattle.journal.specs.declared.entry.Entry.the-variants.{Arrival, Taking}
 use Rattle.journal.specs.declared.row.Row.{Row}
+use Rattle.journal.specs.Searches.{earlier}
 use Rattle.journal.specs.Folders.{ahead, ahead-of-all, in-order, placed, has-stamp}
-use Rattle.journal.specs.Replay.{stamp-of, replay, waiting, fetched, sound, by-stamp, dated, entered, struck, first-unserved}
+use Rattle.journal.specs.Replay.{replay, waiting, sound, first-unserved, by-stamp, dated, entered, struck}
 use Rattle.journal.specs.Rows.{entries}
-use Rattle.journal.specs.Movers.{entry-at}
 use Rattle.bridges.specs.Racks.{Rising, Stands, Served, gone}
-use Rattle.bridges.specs.Soundness.{Soundness-by-stock, unserved-entered, unserved-struck}
+use Rattle.bridges.specs.Soundness.{Soundness-by-stock, before-low, new-or-before-low, unserved-entered, unserved-struck}
 use Rattle.bridges.proofs.Ahead.{Lawful}
-use Rattle.bridges.proofs.Racks.{stands-arrival, stands-taking, placed-swap, placed-front, rising-earlier}
+use Rattle.bridges.proofs.Racks.{stands-arrival, stands-taking, placed-swap, placed-front}
 use Rattle.bridges.proofs.OneMore.{never-served, one-more-served}
-use Rattle.bridges.proofs.Journals.{Older, Corrected, entering, striking, rising-journal, rising-append, older-later, replay-append, served-parts, served-join, served-sound, sound-served, stands-after}
+use Rattle.bridges.proofs.Journals.{Older, entering, striking, rising-journal, rising-append, older-later, replay-append, served-parts, served-join, served-sound, sound-served, stands-after}
 use Rattle.bridges.proofs.Members.{Among, among-right, fetched-not-waiting}
 use Rattle.bridges.proofs.Places.{gone-append}
-use Rattle.bridges.proofs.Stocks.{taking-between-unserved, arrival-between-unserved}
+use Rattle.bridges.proofs.Stocks.{entered-by-low, struck-by-low, taking-between-unserved, arrival-between-unserved}
 
 module _ {P : Type 0} (nb : P → P → Bool) (L : Lawful nb) where
   -- a folder that is never fetched can be lifted off at the beginning: nothing else changes
@@ -69,19 +70,41 @@ module _ {P : Type 0} (nb : P → P → Bool) (L : Lawful nb) where
       let parts = served-parts nb xs (Arrival f ∷ ys) [] (served-sound _ h) in
       let all : Rising 0 (xs ++ Arrival f ∷ ys) = rising-append 0 (f .stamp) xs (Arrival f ∷ ys) r o (omega arith) (omega arith, k) in
       let never : Among f (gone nb (placed nb f (replay nb [] xs)) ys) → ⊥
-            = λ m. both-ways _ (fetched-not-waiting nb 0 (xs ++ Arrival f ∷ ys) f all (rw (gone-append nb xs (Arrival f ∷ ys) []) (among-right f (gone nb [] xs) _ m))) w in
+      = λ m. both-ways _ (fetched-not-waiting nb 0 (xs ++ Arrival f ∷ ys) f all (rw (gone-append nb xs (Arrival f ∷ ys) []) (among-right f (gone nb [] xs) _ m))) w in
       let got = never-fetched ys (replay nb [] xs) f (stands-after nb L (suc (f .stamp)) xs ys r (older-later (f .stamp) xs o) k) (omega arith) (parts .1) never in
       (replay-append nb xs (Arrival f ∷ ys) [] ∙ got .0 ∙ ap (placed nb f) (sym (replay-append nb xs ys [])), sound-served _ (served-join nb xs ys [] (parts .0) (got .1)))
 
+  taking-unserved : (rs : List (Row P)) (s : ℕ) → by-stamp (entries rs) ≡ true → sound nb (entries rs) ≡ true → dated s (entries rs) ≡ false → first-unserved nb (entered (Taking s) (entries rs)) ≡ unserved-entered rs s
+  taking-unserved rs s b h d =
+      let c = entering 0 (Taking s) (entries rs) (omega arith) (rising-journal (entries rs) b) d in
+      ap (first-unserved nb) (c .having-is) ∙ taking-between-unserved nb rs (c .before) (c .after) s (c .lacking-is) (c .older) (c .rising-after) (served-sound _ h)
+
+  arrival-unserved : (rs : List (Row P)) (s : ℕ) (f : Folder P) → by-stamp (entries rs) ≡ true → sound nb (entries rs) ≡ true → entry-at s (entries rs) ≡ Some (Arrival f) → first-unserved nb (struck s (entries rs)) ≡ unserved-struck rs s
+  arrival-unserved rs s f b h at =
+      let got = striking 0 s (Arrival f) (entries rs) (rising-journal (entries rs) b) at in
+      let c = got .2 in
+      ap (first-unserved nb) (c .lacking-is) ∙ arrival-between-unserved nb rs (c .before) (c .after) f (c .having-is) (c .older) (c .rising-after) (served-sound _ h) ∙ ap (unserved-struck rs) (got .0)
+
+  some-row : (rs : List (Row P)) (s : ℕ) (e : Entry P) → entry-at s (entries rs) ≡ Some e → 1 ≤ length rs
+  some-row [] s e h = absurd (let z : _≡_ {A = ℕ} 0 1 = cc in omega arith)
+  some-row (x ∷ rs) s e h = omega arith
+
   pub soundness-by-stock : Soundness-by-stock nb
   soundness-by-stock = record {
-      taking-entered = λ rs s b h d. let c = entering 0 (Taking s) (entries rs) (omega arith) (rising-journal (entries rs) b) d in
-        ap (first-unserved nb) (c .having-is) ∙ taking-between-unserved nb rs (c .before) (c .after) s (c .lacking-is) (c .older) (c .rising-after) (served-sound _ h);
-      arrival-struck = λ rs s f b h at. let got = striking 0 s (Arrival f) (entries rs) (rising-journal (entries rs) b) at in let c = got .2 in
-        ap (first-unserved nb) (c .lacking-is) ∙ arrival-between-unserved nb rs (c .before) (c .after) f (c .having-is) (c .older) (c .rising-after) (served-sound _ h) ∙ ap (unserved-struck rs) (got .0);
-      waiting-struck = λ es s f b h at w. let got = striking 0 s (Arrival f) es (rising-journal es b) at in let c = got .2 in
+    taking-sound = λ rs s b h d. (
+      (λ v. entered-by-low rs s (sym (taking-unserved rs s b h d) ∙ served-sound _ v)),
+      (λ e. sound-served _ (taking-unserved rs s b h d ∙ ap (new-or-before-low rs (earlier rs s) s) e)),
+    );
+    arrival-sound = λ rs s f b h at. (
+      (λ v. struck-by-low rs s (some-row rs s (Arrival f) at) (sym (arrival-unserved rs s f b h at) ∙ served-sound _ v)),
+      (λ e. sound-served _ (arrival-unserved rs s f b h at ∙ ap (before-low rs) e)),
+    );
+    taking-entered = taking-unserved;
+    arrival-struck = arrival-unserved;
+    waiting-struck = λ es s f b h at w. let got = striking 0 s (Arrival f) es (rising-journal es b) at in let c = got .2 in
         rw (c .lacking-is) (waiting-between (c .before) (c .after) f (c .older) (c .rising-before) (c .rising-after) (rw (c .having-is) at h) (rw (c .having-is) at (rw (← got .0) at w)) .1);
-      arrival-entered = λ es f b h d. let c = entering 0 (Arrival f) es (omega arith) (rising-journal es b) d in
+    arrival-entered = λ es f b h d. let c = entering 0 (Arrival f) es (omega arith) (rising-journal es b) d in
         rw (c .having-is) (arrival-between-sound (c .before) (c .after) f (c .older) (c .rising-before) (c .rising-after) (rw (c .lacking-is) at h));
-      taking-struck = λ es s t b h at. let got = striking 0 s (Taking t) es (rising-journal es b) at in let c = got .2 in
-        rw (c .lacking-is) (taking-between-sound (c .before) (c .after) t (c .older) (c .rising-before) (c .rising-after) (rw (c .having-is) at h)) }
+    taking-struck = λ es s t b h at. let got = striking 0 s (Taking t) es (rising-journal es b) at in let c = got .2 in
+        rw (c .lacking-is) (taking-between-sound (c .before) (c .after) t (c .older) (c .rising-before) (c .rising-after) (rw (c .having-is) at h));
+  }

@@ -1,27 +1,22 @@
 -- Soundness by stock: a run with one folder fewer finds the rack empty just before the first low stock.
 use mathlib.Core.Path.{_≡_, refl, sym, ap, _∙_}
-use mathlib.Core.Bool.{Bool, true, false, cond, not}
-use mathlib.Core.List.{List, [], _∷_, _++_, map}
-use Prim.Native.Nat.{ℕ, zero, suc, _+_, _-_, _≤_, _<_, min}
+use mathlib.Core.Bool.{Bool, true, false, cond}
+use mathlib.Core.List.{List, [], _∷_, _++_}
+use Prim.Native.Nat.{ℕ, zero, suc, _+_, _-_, _≤_, _<_}
 use native.Mathlib.Omega.{arith}
-use lib.Dec.{ltb, leb, eqb}
-use lib.ListN.{length, take, drop, length-map, length-append}
-use lib.Seq.{take-append-seam, drop-append-seam}
-use lib.IntN.{ℤ, pos}
-use lib.Signed.{leZ}
+use lib.Dec.{ltb, eqb}
+use lib.ListN.{length, drop, length-map, length-append}
 use Rattle.std.specs.declared.option.Option.{Option}
 use Rattle.std.specs.declared.option.Option.the-variants.{Some, None}
 use Rattle.std.specs.Options.{mapped}
 use Rattle.std.specs.shelf.Maps.{nth}
-use Rattle.std.proofs.shelf.Tests.{lt-leb, lt-ltb, le-ltb, eq-eqb, ne-eqb}
-use Rattle.std.proofs.shelf.Ways.{tells}
-use Rattle.std.proofs.shelf.Signed.{ints}
+use Rattle.std.proofs.shelf.Tests.{eqb-false, lt-leb, lt-ltb, le-ltb, eq-eqb, ne-eqb}
 use Rattle.journal.specs.declared.folder.Folder.{Folder}
 use Rattle.journal.specs.declared.entry.Entry.{Entry}
 use Rattle.journal.specs.declared.entry.Entry.the-variants.{Arrival, Taking}
 use Rattle.journal.specs.declared.row.Row.{Row}
 use Rattle.journal.specs.Folders.{placed}
-use Rattle.journal.specs.Replay.{stamp-of, replay, rack-after, waiting, fetches, first-empty, first-unserved}
+use Rattle.journal.specs.Replay.{stamp-of, replay, rack-after, fetches, first-empty, first-unserved}
 use Rattle.journal.specs.Rows.{entry-of, entries, stock}
 use Rattle.journal.specs.Searches.{earlier, place-in, least-from, low, first-low-stock}
 use Rattle.bridges.specs.Racks.{Rising, Served}
@@ -29,8 +24,8 @@ use Rattle.bridges.specs.Counting.{rack-at}
 use Rattle.bridges.specs.Soundness.{stamp-before, before-low, new-or-before-low, unserved-entered, unserved-struck}
 use Rattle.bridges.proofs.Racks.{rising-earlier}
 use Rattle.bridges.proofs.OneMore.{never-served}
-use Rattle.bridges.proofs.Journals.{Older, served-parts, served-join}
-use Rattle.bridges.proofs.Places.{step-at, served-at}
+use Rattle.bridges.proofs.Journals.{Older, served-parts}
+use Rattle.bridges.proofs.Places.{step-at, rack-seam, drop-seam, rack-next, drop-next}
 use Rattle.bridges.proofs.Sums.{stock-at, length-placed}
 
 -- the stamp of the first taking that finds no folder, where n folders are there at the beginning
@@ -54,6 +49,14 @@ module _ {P : Type 0} where
       let t : entries rs ≡ xs ++ ys = cc in
       rw (lt-ltb (stamp-of (entry-of a)) s (omega (arith, ap stamp-of h, o .0))) (let ih = earlier-parts s xs ys rs t (o .1) r in omega arith)
 
+  pub earlier-within : (rs : List (Row P)) (s : ℕ) → earlier rs s ≤ length rs
+  earlier-within [] s = omega arith
+  earlier-within (x ∷ rs) s = go (ltb (stamp-of (entry-of x)) s) (earlier-within rs s)
+    where
+      go : (b : Bool) → earlier rs s ≤ length rs → cond b (1 + earlier rs s) (earlier rs s) ≤ suc (length rs)
+      go true ih = omega arith
+      go false ih = omega arith
+
   -- the stamp of the row at a place, from the entries that follow the place
   pub stamp-at : (i : ℕ) (rs : List (Row P)) (e : Entry P) (es : List (Entry P)) → drop i (entries rs) ≡ e ∷ es → stamp-before rs (suc i) ≡ Some (stamp-of e)
   stamp-at i [] e es h = absurd (let z : _≡_ {A = ℕ} 0 1 = cc (lib.Seq.drop-nil {A = Entry P} i) in omega arith)
@@ -68,6 +71,55 @@ least-after test (suc n) j k h = go (test j) h (least-after test n (suc j) k)
     go : (b : Bool) → cond b (Some j) (least-from test (suc j) n) ≡ Some k → (least-from test (suc j) n ≡ Some k → suc j ≤ k) → j ≤ k
     go true e ih = let same : j ≡ k = cc in omega arith
     go false e ih = omega (arith, ih e)
+
+-- nor is it beyond where the search ended
+least-before : (test : ℕ → Bool) (n j k : ℕ) → least-from test j n ≡ Some k → k < j + n
+least-before test zero j k h = absurd (let z : _≡_ {A = ℕ} 0 1 = cc in omega arith)
+least-before test (suc n) j k h = go (test j) h (least-before test n (suc j) k)
+  where
+    go : (b : Bool) → cond b (Some j) (least-from test (suc j) n) ≡ Some k → (least-from test (suc j) n ≡ Some k → k < suc j + n) → k < j + suc n
+    go true e ih = let same : j ≡ k = cc in omega arith
+    go false e ih = omega (arith, ih e)
+
+at-place : {A : Type 0} (i : ℕ) (xs : List A) → i < length xs → (x : A) × (nth xs i ≡ Some x)
+at-place i [] lt = absurd (omega arith)
+at-place zero (x ∷ xs) lt = (x, refl)
+at-place (suc i) (x ∷ xs) lt = at-place i xs (omega arith)
+
+module _ {P : Type 0} where
+  -- a low place that is found, after the first, has a row before it
+  low-has-row : (rs : List (Row P)) (p j : ℕ) → first-low-stock rs p ≡ Some j → 1 ≤ j → stamp-before rs j ≡ None → ⊥
+  low-has-row rs p zero e le h = omega arith
+  low-has-row rs p (suc i) e le h =
+      let q = place-in rs p in
+      let lt : suc i < q + suc (length rs - q) = least-before (low (stock rs)) (suc (length rs - q)) q (suc i) e in
+      let got = at-place i rs (omega arith) in
+      never-served (stamp-of (entry-of (got .0))) (ap (mapped (λ (r : Row P). stamp-of (entry-of r))) (sym (got .1)) ∙ h)
+
+  pub entered-by-low : (rs : List (Row P)) (s : ℕ) → unserved-entered rs s ≡ None → first-low-stock rs (earlier rs s) ≡ None
+  entered-by-low rs s h = go (first-low-stock rs (earlier rs s)) refl h
+    where
+      go : (o : Option ℕ) → first-low-stock rs (earlier rs s) ≡ o → new-or-before-low rs (earlier rs s) s o ≡ None → o ≡ None
+      go None e k = refl
+      go (Some j) e k = here (eqb j (earlier rs s)) refl k
+        where
+          here : (b : Bool) → eqb j (earlier rs s) ≡ b → cond b (Some s) (stamp-before rs j) ≡ None → Some j ≡ None
+          here true q z = absurd (never-served s z)
+          here false q z =
+              let after : place-in rs (earlier rs s) ≤ j = least-after (low (stock rs)) (suc (length rs - place-in rs (earlier rs s))) (place-in rs (earlier rs s)) j e in
+              absurd (low-has-row rs (earlier rs s) j e (positive after (eqb-false j (earlier rs s) q)) z)
+            where
+              positive : place-in rs (earlier rs s) ≤ j → (j ≡ earlier rs s → ⊥) → 1 ≤ j
+              positive le ne = omega (arith, earlier-within rs s)
+
+  pub struck-by-low : (rs : List (Row P)) (s : ℕ) → 1 ≤ length rs → unserved-struck rs s ≡ None → first-low-stock rs (suc (earlier rs s)) ≡ None
+  struck-by-low rs s some h = go (first-low-stock rs (suc (earlier rs s))) refl h
+    where
+      go : (o : Option ℕ) → first-low-stock rs (suc (earlier rs s)) ≡ o → before-low rs o ≡ None → o ≡ None
+      go None e k = refl
+      go (Some j) e k =
+          let after : place-in rs (suc (earlier rs s)) ≤ j = least-after (low (stock rs)) (suc (length rs - place-in rs (suc (earlier rs s)))) (place-in rs (suc (earlier rs s))) j e in
+          absurd (low-has-row rs (suc (earlier rs s)) j e (omega arith) k)
 
 module _ {P : Type 0} (nb : P → P → Bool) where
   first-empty-counted : (es : List (Entry P)) (rack : List (Folder P)) → first-empty (fetches nb rack es) ≡ unserved (length rack) es
@@ -139,9 +191,6 @@ module _ {P : Type 0} (nb : P → P → Bool) where
       size : length rs ≡ length xs + length ys
       size = sym (length-map rs entry-of) ∙ ap length e ∙ length-append xs ys
 
-      front : rack-at nb (entries rs) (length xs) ≡ replay nb [] xs
-      front = rw e (ap (waiting nb) (take-append-seam xs ys))
-
       served-front : Served nb [] xs
       served-front = served-parts nb xs ys [] (rw e at v) .0
 
@@ -150,25 +199,25 @@ module _ {P : Type 0} (nb : P → P → Bool) where
 
       go : (rack : List (Folder P)) → replay nb [] xs ≡ rack → first-unserved nb (xs ++ Taking s ∷ ys) ≡ unserved-entered rs s
       go [] q =
-          let l : length (rack-at nb (entries rs) (length xs)) ≡ 0 = ap length (front ∙ q) in
+          let l : length (rack-at nb (entries rs) (length xs)) ≡ 0 = ap length (rack-seam nb (entries rs) xs ys e ∙ q) in
           unserved-is ∙ ap (λ n. unserved n (Taking s ∷ ys)) (ap length q)
           ∙ sym (ap (λ p. new-or-before-low rs p s (first-low-stock rs p)) place ∙ ap (new-or-before-low rs (length xs) s) (from-empty rs v (length xs) (omega (arith, size)) l) ∙ (rw (eq-eqb (length xs) (length xs) refl)))
       go (y ∷ rack) q =
           let n = length rack in
-          let l : length (rack-at nb (entries rs) (length xs)) ≡ suc n = ap length (front ∙ q) in
-          let rest-is : drop (length xs) (entries rs) ≡ ys = ap (drop (length xs)) e ∙ drop-append-seam xs ys in
+          let l : length (rack-at nb (entries rs) (length xs)) ≡ suc n = ap length (rack-seam nb (entries rs) xs ys e ∙ q) in
+          let rest-is : drop (length xs) (entries rs) ≡ ys = drop-seam (entries rs) xs ys e in
           let found = from-filled rs v (length xs) n (omega (arith, size)) l in
           unserved-is ∙ ap (λ k. unserved k (Taking s ∷ ys)) (ap length q)
           ∙ ap (unserved n) (sym rest-is) ∙ fewer rs v (length rs - length xs) (length xs) n (omega (arith, size)) l
           ∙ sym (ap (λ p. new-or-before-low rs p s (first-low-stock rs p)) place ∙ ap (new-or-before-low rs (length xs) s) found
-              ∙ not-here rs (length xs) s _ (λ k h. least-after (low (stock rs)) (length rs - length xs) (suc (length xs)) k h))
+          ∙ not-here rs (length xs) s _ (λ k h. least-after (low (stock rs)) (length rs - length xs) (suc (length xs)) k h))
 
   -- an arrival between the first entries and the others, struck out
   pub arrival-between-unserved : (rs : List (Row P)) (xs ys : List (Entry P)) (f : Folder P) → entries rs ≡ xs ++ Arrival f ∷ ys → Older (f .stamp) xs → Rising (suc (f .stamp)) ys → Served nb [] (entries rs)
       → first-unserved nb (xs ++ ys) ≡ unserved-struck rs (f .stamp)
   arrival-between-unserved rs xs ys f e o r v =
       first-empty-append xs ys [] served-front ∙ first-empty-counted ys (replay nb [] xs)
-      ∙ ap (unserved (length (replay nb [] xs))) (sym rest-is) ∙ fewer rs v (length rs - suc (length xs)) (suc (length xs)) (length (replay nb [] xs)) (omega (arith, size)) size-after
+      ∙ ap (unserved (length (replay nb [] xs))) (sym (drop-next (entries rs) xs ys (Arrival f) e)) ∙ fewer rs v (length rs - suc (length xs)) (suc (length xs)) (length (replay nb [] xs)) (omega (arith, size)) size-after
       ∙ ap (before-low rs) (sym (ap (λ p. first-low-stock rs (suc p)) place ∙ from-filled rs v (suc (length xs)) (length (replay nb [] xs)) (omega (arith, size)) size-after))
     where
       place : earlier rs (f .stamp) ≡ length xs
@@ -180,16 +229,5 @@ module _ {P : Type 0} (nb : P → P → Bool) where
       served-front : Served nb [] xs
       served-front = served-parts nb xs (Arrival f ∷ ys) [] (rw e at v) .0
 
-      take-one : (zs : List (Entry P)) → take (suc (length zs)) (zs ++ Arrival f ∷ ys) ≡ zs ++ Arrival f ∷ []
-      take-one [] = refl
-      take-one (z ∷ zs) = ap (λ l. z ∷ l) (take-one zs)
-
-      drop-one : (zs : List (Entry P)) → drop (suc (length zs)) (zs ++ Arrival f ∷ ys) ≡ ys
-      drop-one [] = refl
-      drop-one (z ∷ zs) = drop-one zs
-
-      rest-is : drop (suc (length xs)) (entries rs) ≡ ys
-      rest-is = ap (drop (suc (length xs))) e ∙ drop-one xs
-
       size-after : length (rack-at nb (entries rs) (suc (length xs))) ≡ suc (length (replay nb [] xs))
-      size-after = ap (λ l. length (waiting nb (take (suc (length xs)) l))) e ∙ ap (λ l. length (waiting nb l)) (take-one xs) ∙ ap length (Rattle.bridges.proofs.Journals.replay-append nb xs (Arrival f ∷ []) []) ∙ length-placed nb f (replay nb [] xs)
+      size-after = ap length (rack-next nb (entries rs) xs ys (Arrival f) e) ∙ length-placed nb f (replay nb [] xs)

@@ -2,13 +2,11 @@
 use mathlib.Core.Path.{_≡_, refl, sym, ap, _∙_}
 use mathlib.Core.Bool.{Bool, true, false, cond, not}
 use mathlib.Core.List.{List, [], _∷_, map}
-use mathlib.Core.Logic.{_⊎_, inl, inr}
-use Prim.Native.Nat.{ℕ, zero, suc, _+_, _≤_, _<_}
+use mathlib.Core.Logic.{inl, inr}
+use Prim.Native.Nat.{ℕ, suc}
 use native.Mathlib.Omega.{arith}
-use lib.ListN.{length, take, drop}
-use lib.IntN.{ℤ, pos, negsuc, _+ℤ_}
-use Rattle.std.specs.declared.option.Option.{Option}
-use Rattle.std.specs.declared.option.Option.the-variants.{Some, None}
+use lib.ListN.{length, take}
+use lib.IntN.{pos, _+ℤ_}
 use Rattle.std.proofs.shelf.Signed.{ints}
 use Rattle.std.proofs.shelf.Lists.{take-map}
 use Rattle.journal.specs.declared.folder.Folder.{Folder}
@@ -16,15 +14,14 @@ use Rattle.journal.specs.declared.entry.Entry.{Entry}
 use Rattle.journal.specs.declared.entry.Entry.the-variants.{Arrival, Taking}
 use Rattle.journal.specs.declared.row.Row.{Row}
 use Rattle.journal.specs.declared.row.Row.the-variants as row
-use Rattle.journal.specs.declared.row.Mark.{Mark}
 use Rattle.journal.specs.declared.row.Mark.the-variants.{Waiting, Fetched}
 use Rattle.journal.specs.Folders.{placed, has-stamp}
-use Rattle.journal.specs.Replay.{replay, waiting, sound, by-stamp}
-use Rattle.journal.specs.Rows.{entry-of, entries, stock-step, balance-step, sum-of, stock, balance, row-of, marked, Marks-agree}
+use Rattle.journal.specs.Replay.{replay, waiting}
+use Rattle.journal.specs.Rows.{entry-of, entries, stock-step, balance-step, sum-of, stock, balance, row-of, marked}
 use Rattle.bridges.specs.Racks.{Rising, Served, gone}
-use Rattle.bridges.specs.Counting.{count, rack-at, will-be-fetched}
+use Rattle.bridges.specs.Counting.{count, rack-at}
 use Rattle.bridges.proofs.OneMore.{never-served}
-use Rattle.bridges.proofs.Counts.{arrivals, stamped, count-placed}
+use Rattle.bridges.proofs.Counts.{count-placed}
 use Rattle.bridges.proofs.Members.{Among, fetched-not-waiting}
 use Rattle.bridges.proofs.Places.{served-at, fetched-earlier}
 

@@ -1,3 +1,4 @@
+pub mod Folders
 pub mod Racks
 pub mod Movers
 pub mod Counting
@@ -7,3 +8,5 @@ pub mod Marks
 pub mod Law
 pub mod Places
 pub mod ByRows
+pub mod ShortCuts
+pub mod Keeping

@@ -4,8 +4,7 @@ use mathlib.Core.Bool.{Bool, true, false}
 use mathlib.Core.List.{List}
 use Prim.Native.Nat.{ℕ, _<_}
 use lib.ListN.{length}
-use Rattle.std.specs.declared.option.Option.{Option}
-use Rattle.std.specs.declared.option.Option.the-variants.{Some, None}
+use Rattle.std.specs.declared.option.Option.the-variants.{Some}
 use Rattle.journal.specs.declared.folder.Folder.{Folder}
 use Rattle.journal.specs.declared.entry.Entry.{Entry}
 use Rattle.journal.specs.declared.entry.Entry.the-variants.{Arrival, Taking}
@@ -13,7 +12,7 @@ use Rattle.journal.specs.Folders.{placed, has-stamp, in-order}
 use Rattle.journal.specs.Replay.{waiting, sound, by-stamp, dated, entered, struck}
 use Rattle.journal.specs.Movers.{entry-at, arrival-mover, taking-mover}
 use Rattle.journal.specs.Racks.{taken-out, put-rule, remove-rule}
-use Rattle.orders.specs.Refusal.{Told, told}
+use Rattle.orders.specs.Refusal.{told}
 
 module _ {P : Type 0} (notBehind : P → P → Bool) where
   -- two lists in order that differ by exactly one folder

@@ -1,16 +1,15 @@
 -- Places: what the places that a date line answers with stand for, and the folder with so many ahead of it.
 use mathlib.Core.Path.{_≡_}
-use mathlib.Core.Bool.{Bool, true, false}
+use mathlib.Core.Bool.{Bool, true}
 use mathlib.Core.List.{List, [], List·Memᴰ}
 use Prim.Native.Nat.{ℕ, _≤_}
 use lib.ListN.{length, take, drop}
-use Rattle.std.specs.declared.option.Option.{Option}
 use Rattle.std.specs.declared.option.Option.the-variants.{Some, None}
 use Rattle.std.specs.shelf.Maps.{nth}
 use Rattle.journal.specs.declared.folder.Folder.{Folder}
 use Rattle.journal.specs.declared.entry.Entry.{Entry}
 use Rattle.journal.specs.declared.row.Row.{Row}
-use Rattle.journal.specs.declared.row.Row.the-variants.{Arrival, Taking}
+use Rattle.journal.specs.declared.row.Row.the-variants.{Arrival}
 use Rattle.journal.specs.declared.row.Mark.the-variants.{Waiting, Fetched}
 use Rattle.journal.specs.Folders.{ahead, Foremost, Hindmost}
 use Rattle.journal.specs.Replay.{stamp-of, by-stamp, dated, waiting}

@@ -8,7 +8,6 @@ use Rattle.std.specs.declared.option.Option.the-variants.{Some, None}
 use Rattle.std.specs.Options.{mapped, flattened}
 use Rattle.std.specs.shelf.Maps.{nth}
 use Rattle.journal.specs.declared.folder.Folder.{Folder}
-use Rattle.journal.specs.declared.entry.Entry.{Entry}
 use Rattle.journal.specs.declared.entry.Entry.the-variants as entry
 use Rattle.journal.specs.declared.row.Row.{Row}
 use Rattle.journal.specs.declared.row.Row.the-variants.{Arrival, Taking}

@@ -2,6 +2,7 @@
 use mathlib.Core.Path.{_≡_}
 use mathlib.Core.Bool.{Bool, true, false, cond}
 use mathlib.Core.List.{List}
+use mathlib.Core.Logic.{_↔_}
 use Prim.Native.Nat.{ℕ, zero, suc}
 use lib.Dec.{eqb}
 use Rattle.std.specs.declared.option.Option.{Option}
@@ -44,10 +45,17 @@ unserved-struck rs s = before-low rs (first-low-stock rs (suc (earlier rs s)))
 module _ {P : Type 0} (notBehind : P → P → Bool) where
   -- for the rows of a sound journal
   pub record Soundness-by-stock : Type 0 where
+    -- the corrected journal is sound exactly when no low stock is found
+    pub taking-sound : (rs : List (Row P)) (s : ℕ) → by-stamp (entries rs) ≡ true → sound notBehind (entries rs) ≡ true → dated s (entries rs) ≡ false
+        → (sound notBehind (entered (Taking s) (entries rs)) ≡ true) ↔ (first-low-stock rs (earlier rs s) ≡ None)
+    pub arrival-sound : (rs : List (Row P)) (s : ℕ) (f : Folder P) → by-stamp (entries rs) ≡ true → sound notBehind (entries rs) ≡ true → entry-at s (entries rs) ≡ Some (Arrival f)
+        → (sound notBehind (struck s (entries rs)) ≡ true) ↔ (first-low-stock rs (suc (earlier rs s)) ≡ None)
+    -- and else the first low place gives the first taking that finds no folder
     pub taking-entered : (rs : List (Row P)) (s : ℕ) → by-stamp (entries rs) ≡ true → sound notBehind (entries rs) ≡ true → dated s (entries rs) ≡ false
         → first-unserved notBehind (entered (Taking s) (entries rs)) ≡ unserved-entered rs s
     pub arrival-struck : (rs : List (Row P)) (s : ℕ) (f : Folder P) → by-stamp (entries rs) ≡ true → sound notBehind (entries rs) ≡ true → entry-at s (entries rs) ≡ Some (Arrival f)
         → first-unserved notBehind (struck s (entries rs)) ≡ unserved-struck rs s
+    -- these are never refused for want of a folder
     pub waiting-struck : (es : List (Entry P)) (s : ℕ) (f : Folder P) → by-stamp es ≡ true → sound notBehind es ≡ true → entry-at s es ≡ Some (Arrival f) → has-stamp s (waiting notBehind es) ≡ true
         → sound notBehind (struck s es) ≡ true
     pub arrival-entered : (es : List (Entry P)) (f : Folder P) → by-stamp es ≡ true → sound notBehind es ≡ true → dated (f .stamp) es ≡ false

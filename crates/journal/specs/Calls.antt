@@ -1,5 +1,5 @@
 -- The calls of a book's life: the reply that is defined for each, and the journal after it.
-use mathlib.Core.Bool.{Bool, true, false, cond}
+use mathlib.Core.Bool.{Bool, cond}
 use mathlib.Core.List.{List, [], _∷_}
 use Prim.Native.Nat.{ℕ}
 use lib.Dec.{leb}
@@ -18,7 +18,7 @@ use Rattle.journal.specs.declared.call.Standing.the-variants as standing
 use Rattle.journal.specs.declared.call.Reply.{Reply}
 use Rattle.journal.specs.declared.call.Reply.the-variants as reply
 use Rattle.journal.specs.Folders.{has-stamp}
-use Rattle.journal.specs.Replay.{entered, struck, dated, waiting, stood, first-unserved}
+use Rattle.journal.specs.Replay.{struck, dated, waiting, stood, first-unserved}
 use Rattle.journal.specs.Movers.{entry-at, arrival-mover, taking-mover}
 use Rattle.journal.specs.Refusals.{book-refusal}
 use Rattle.journal.specs.Entering.{stamp-in-range, enter-rule}
