@@ -19,7 +19,7 @@ use Rattle.journal.specs.Rows.{entries, balance, marked, Marks-agree}
 use Rattle.journal.specs.Searches.{low}
 use Rattle.bridges.specs.Racks.{Rising, Served, gone}
 use Rattle.bridges.specs.Counting.{count, rack-at, will-be-fetched, Counting}
-use Rattle.bridges.proofs.Ahead.{Lawful}
+use Rattle.journal.proofs.Ahead.{Lawful}
 use Rattle.bridges.proofs.Journals.{rising-journal, served-sound}
 use Rattle.bridges.proofs.Members.{Among, among-end, among-has-stamp, has-stamp-among, fetched-not-waiting, count-alike, none-counted, counted-none, counted-some}
 use Rattle.bridges.proofs.Places.{waiting-at, fetched-later}

@@ -29,13 +29,14 @@ use Rattle.journal.specs.Rows.{entry-of, entries, row-of}
 use Rattle.journal.specs.Searches.{earlier}
 use Rattle.journal.specs.Movers.{entry-at, arrival-mover, taking-mover}
 use Rattle.journal.specs.Entering.{stamp-in-range, enter-rule}
-use Rattle.journal.specs.Calls.{joined, left, counted, waits-at, standing-is, and-so, or-as-before, if-served, moved, as-meant, sound-rule, revoke-moves, standing-of, defined-reply, later-journal}
+use Rattle.journal.specs.Refusals.{later}
+use Rattle.journal.specs.Calls.{joined, left, counted, waits-at, standing-is, and-so, if-served, moved, as-meant, sound-rule, revoke-moves, standing-of, defined-reply, later-journal}
 use Rattle.bridges.specs.Racks.{Rising}
 use Rattle.bridges.specs.Soundness.{unserved-entered}
 use Rattle.bridges.specs.Rules.{arrival-rule, taking-rule, fetched-revoked-rule, Kept}
 use Rattle.bridges.specs.Marks.{arrival-rows, taking-rows, fetched-revoked-rows, Carries}
 use Rattle.bridges.specs.ByRows.{row-dated, unless-unserved, standing-by, revoke-reply, revoke-rows, reply-by-rows, rows-after, Answers-by-rows}
-use Rattle.bridges.proofs.Ahead.{Lawful}
+use Rattle.journal.proofs.Ahead.{Lawful}
 use Rattle.bridges.proofs.Members.{Among}
 use Rattle.bridges.proofs.Journals.{striking, rising-journal, served-sound, sound-served}
 use Rattle.bridges.proofs.Soundness.{soundness-by-stock}
@@ -93,7 +94,7 @@ module _ {P : Type 0} (nb : P → P → Bool) (canonical : P → P) (L : Lawful 
     where
       Goal : Folder P → Told (List (Entry P)) → Type 0
       Goal g o = (and-so o (λ es. told (joined (arrival-rule nb rs g))) ≡ and-so (and-so o (sound-rule nb canonical)) (λ corrected. told (joined (arrival-mover nb (entries rs) g))))
-          × Carries nb (or-as-before (and-so o (λ es. told (arrival-rows nb rs g))) rs) (or-as-before (and-so o (sound-rule nb canonical)) (entries rs))
+          × Carries nb (later (and-so o (λ es. told (arrival-rows nb rs g))) rs) (later (and-so o (sound-rule nb canonical)) (entries rs))
 
       go : (o : Told (List (Entry P))) → Ruled o (entered (entry.Arrival (as-meant nb canonical f)) (entries rs)) (Enterable capacity (entries rs) (entry.Arrival (as-meant nb canonical f))) → Goal (as-meant nb canonical f) o
       go o (inl q) =
@@ -101,7 +102,7 @@ module _ {P : Type 0} (nb : P → P → Bool) (canonical : P → P) (L : Lawful 
           let es′ = entered (entry.Arrival g) (entries rs) in
           let served = served-sound _ (soundness-by-stock nb L .arrival-entered (entries rs) g (k .order) (k .served) (q .1 .free)) in
           subst (Goal g) (sym (q .0))
-          (subst (λ u. (told (joined (arrival-rule nb rs g)) ≡ and-so (if-served es′ u) (λ corrected. told (joined (arrival-mover nb (entries rs) g)))) × Carries nb (arrival-rows nb rs g) (or-as-before (if-served es′ u) (entries rs))) (sym served)
+          (subst (λ u. (told (joined (arrival-rule nb rs g)) ≡ and-so (if-served es′ u) (λ corrected. told (joined (arrival-mover nb (entries rs) g)))) × Carries nb (arrival-rows nb rs g) (later (if-served es′ u) (entries rs))) (sym served)
           (ap (λ m. told (joined m)) (bridges-find-movers nb L .arrival rs g k (q .1 .free)), marks-kept nb L .arrival rs g k (q .1 .free)))
       go o (inr q) = subst (Goal (as-meant nb canonical f)) (sym (q .2)) (refl, unchanged rs k)
 
@@ -110,11 +111,11 @@ module _ {P : Type 0} (nb : P → P → Bool) (canonical : P → P) (L : Lawful 
     where
       Goal : Told (List (Entry P)) → Option ℕ → Type 0
       Goal o u = (and-so o (λ es. unless-unserved u (moved left s (taking-rule nb rs s))) ≡ and-so (and-so o (sound-rule nb canonical)) (λ corrected. moved left s (taking-mover nb corrected s)))
-          × Carries nb (or-as-before (and-so o (λ es. unless-unserved u (told (taking-rows nb rs s)))) rs) (or-as-before (and-so o (sound-rule nb canonical)) (entries rs))
+          × Carries nb (later (and-so o (λ es. unless-unserved u (told (taking-rows nb rs s)))) rs) (later (and-so o (sound-rule nb canonical)) (entries rs))
 
       Here : Option ℕ → Type 0
       Here u = (unless-unserved u (moved left s (taking-rule nb rs s)) ≡ and-so (if-served (entered (entry.Taking s) (entries rs)) u) (λ corrected. moved left s (taking-mover nb corrected s)))
-          × Carries nb (or-as-before (unless-unserved u (told (taking-rows nb rs s))) rs) (or-as-before (if-served (entered (entry.Taking s) (entries rs)) u) (entries rs))
+          × Carries nb (later (unless-unserved u (told (taking-rows nb rs s))) rs) (later (if-served (entered (entry.Taking s) (entries rs)) u) (entries rs))
 
       by : dated s (entries rs) ≡ false → (u : Option ℕ) → first-unserved nb (entered (entry.Taking s) (entries rs)) ≡ u → Here u
       by d None e = let h = sound-served _ e in (ap (moved left s) (bridges-find-movers nb L .taking rs s k d h), marks-kept nb L .taking rs s k d h)
@@ -133,7 +134,7 @@ module _ {P : Type 0} (nb : P → P → Bool) (canonical : P → P) (L : Lawful 
       Goal : Bool → Bool → Option (Row P) → Option (Entry P) → Option ℕ → Type 0
       Goal a d ro eo u =
           (cond a (revoke-reply nb canonical rs s ro) (refused 1 []) ≡ and-so (cond a (cond d (if-served (struck s (entries rs)) u) (refused 5 [])) (refused 1 [])) (λ corrected. revoke-moves nb canonical (entries rs) corrected s eo))
-          × Carries nb (or-as-before (cond a (revoke-rows nb canonical rs s ro) (refused 1 [])) rs) (or-as-before (cond a (cond d (if-served (struck s (entries rs)) u) (refused 5 [])) (refused 1 [])) (entries rs))
+          × Carries nb (later (cond a (revoke-rows nb canonical rs s ro) (refused 1 [])) rs) (later (cond a (cond d (if-served (struck s (entries rs)) u) (refused 5 [])) (refused 1 [])) (entries rs))
 
       stamp-is : (f : Folder P) → entry-at s (entries rs) ≡ Some (entry.Arrival f) → f .stamp ≡ s
       stamp-is f e = striking 0 s (entry.Arrival f) (entries rs) (rising-journal (entries rs) (k .order)) e .0
@@ -144,7 +145,7 @@ module _ {P : Type 0} (nb : P → P → Bool) (canonical : P → P) (L : Lawful 
       -- the row of a fetched arrival, by the stocks after it
       by-stock : (f : Folder P) → entry-at s (entries rs) ≡ Some (entry.Arrival f) → has-stamp s (waiting nb (entries rs)) ≡ false → (u : Option ℕ) → first-unserved nb (struck s (entries rs)) ≡ u
           → (unless-unserved u (moved left s (fetched-revoked-rule nb rs s)) ≡ and-so (if-served (struck s (entries rs)) u) (λ corrected. told (left (arrival-mover nb corrected f))))
-          × Carries nb (or-as-before (unless-unserved u (told (fetched-revoked-rows nb rs s))) rs) (or-as-before (if-served (struck s (entries rs)) u) (entries rs))
+          × Carries nb (later (unless-unserved u (told (fetched-revoked-rows nb rs s))) rs) (later (if-served (struck s (entries rs)) u) (entries rs))
       by-stock f e w None q = let h = sound-served _ q in (ap (moved left s) (bridges-find-movers nb L .fetched-revoked rs s f k e w h), marks-kept nb L .fetched-revoked rs s f k e w h)
       by-stock f e w (Some t) q = (refl, unchanged rs k)
 
@@ -158,7 +159,7 @@ module _ {P : Type 0} (nb : P → P → Bool) (canonical : P → P) (L : Lawful 
           let w : has-stamp s (waiting nb (entries rs)) ≡ false = rw (stamp-is f e) at (fetched-mark _ (mark-is f Fetched m)) in
           let o = first-unserved nb (struck s (entries rs)) in
           subst (λ u. (unless-unserved u (moved left s (fetched-revoked-rule nb rs s)) ≡ and-so (if-served (struck s (entries rs)) o) (λ corrected. told (left (arrival-mover nb corrected f))))
-          × Carries nb (or-as-before (unless-unserved u (told (fetched-revoked-rows nb rs s))) rs) (or-as-before (if-served (struck s (entries rs)) o) (entries rs)))
+          × Carries nb (later (unless-unserved u (told (fetched-revoked-rows nb rs s))) rs) (later (if-served (struck s (entries rs)) o) (entries rs)))
           (soundness-by-stock nb L .arrival-struck rs s f (k .order) (k .served) e) (by-stock f e w o refl)
       by-row (Taking t) m e =
           let served = served-sound _ (soundness-by-stock nb L .taking-struck (entries rs) s t (k .order) (k .served) e) in

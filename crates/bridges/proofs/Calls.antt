@@ -19,10 +19,11 @@ use Rattle.journal.specs.declared.call.Call.the-variants as call
 use Rattle.journal.specs.Replay.{stamp-of, waiting, sound, dated, entered, struck, first-unserved, stood}
 use Rattle.journal.specs.Movers.{entry-at, arrival-mover, taking-mover}
 use Rattle.journal.specs.Entering.{stamp-in-range, number-in-range, enter-rule}
-use Rattle.journal.specs.Calls.{Answer, joined, left, counted, waits-at, standing-is, stood-there, and-so, or-as-before, if-served, moved, as-meant, sound-rule, entering-rule, revoking-rule, correction, revoke-moves, defined-reply, later-journal}
+use Rattle.journal.specs.Refusals.{later}
+use Rattle.journal.specs.Calls.{Answer, joined, left, counted, waits-at, standing-is, stood-there, and-so, if-served, moved, as-meant, sound-rule, entering-rule, revoking-rule, correction, revoke-moves, defined-reply, later-journal}
 use Rattle.bridges.specs.Counting.{count}
 use Rattle.bridges.specs.Law.{Asked, joined-by, left-by, total-of, any, Right, replies, journal-after, Moves-as, Each-moves, Law-of-calls}
-use Rattle.bridges.proofs.Ahead.{Lawful}
+use Rattle.journal.proofs.Ahead.{Lawful}
 use Rattle.bridges.proofs.Counts.{stamped, count-placed, once}
 use Rattle.bridges.proofs.Journals.{entering, striking, rising-journal, by-stamp-rising, sound-served}
 use Rattle.bridges.proofs.Movers.{movers-law}
@@ -98,11 +99,11 @@ module _ {P : Type 0} (nb : P → P → Bool) (canonical : P → P) where
   -- what a rule's reply makes of the waiting list
   by-rule : (o : Told (List (Entry P))) (es corrected : List (Entry P)) (next : List (Entry P) → Told (Answer P)) (reason : Type 0) → Ruled o corrected reason
       → (reason → Right nb canonical corrected × Moves-as nb canonical (next corrected) (waiting nb es) (waiting nb corrected)) → Right nb canonical es
-      → Right nb canonical (or-as-before o es) × Moves-as nb canonical (and-so o next) (waiting nb es) (waiting nb (or-as-before o es))
+      → Right nb canonical (later o es) × Moves-as nb canonical (and-so o next) (waiting nb es) (waiting nb (later o es))
   by-rule o es corrected next reason (inl k) then r =
-      subst (λ x. Right nb canonical (or-as-before x es) × Moves-as nb canonical (and-so x next) (waiting nb es) (waiting nb (or-as-before x es))) (sym (k .0)) (then (k .1))
+      subst (λ x. Right nb canonical (later x es) × Moves-as nb canonical (and-so x next) (waiting nb es) (waiting nb (later x es))) (sym (k .0)) (then (k .1))
   by-rule o es corrected next reason (inr k) then r =
-      subst (λ x. Right nb canonical (or-as-before x es) × Moves-as nb canonical (and-so x next) (waiting nb es) (waiting nb (or-as-before x es))) (sym (k .2)) (r, refl)
+      subst (λ x. Right nb canonical (later x es) × Moves-as nb canonical (and-so x next) (waiting nb es) (waiting nb (later x es))) (sym (k .2)) (r, refl)
 
 module _ {P : Type 0} (nb : P → P → Bool) (canonical : P → P) (L : Lawful nb) where
   -- one call

@@ -18,7 +18,7 @@ use Rattle.journal.specs.Racks.{same-key, holds, taken-out}
 use Rattle.bridges.specs.Racks.{Rising, gone}
 use Rattle.bridges.specs.Movers.{One-apart, Rack-follows}
 use Rattle.bridges.specs.Counting.{count}
-use Rattle.bridges.proofs.Ahead.{Lawful}
+use Rattle.journal.proofs.Ahead.{Lawful}
 use Rattle.bridges.proofs.Journals.{order-replay}
 
 -- the folders of a journal's arrivals

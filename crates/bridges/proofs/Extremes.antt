@@ -7,7 +7,7 @@ use Rattle.std.specs.declared.option.Option.the-variants.{Some}
 use Rattle.std.proofs.shelf.Tests.{both-ways, cases-eq}
 use Rattle.journal.specs.declared.folder.Folder.{Folder}
 use Rattle.journal.specs.Folders.{ahead, ahead-of-all, hindmost-of, hindmost, foremost-of, foremost}
-use Rattle.bridges.proofs.Ahead.{Lawful, ahead-asymmetric, ahead-total, ahead-cotransitive, ahead-irreflexive}
+use Rattle.journal.proofs.Ahead.{Lawful, ahead-asymmetric, ahead-total, ahead-cotransitive, ahead-irreflexive}
 use Rattle.bridges.proofs.Members.{Among}
 
 -- folders of one stamp among these are one

@@ -20,7 +20,7 @@ use Rattle.bridges.specs.Racks.{Rising, Stands, Served, gone}
 use Rattle.bridges.specs.Counting.{rack-at}
 use Rattle.bridges.specs.Movers.{One-apart}
 use Rattle.bridges.specs.Rules.{hinder, hindmost-since-bridge, foremost-before-bridge, arrival-rule, taking-rule, fetched-revoked-rule, taking-revoked-rule, Bridges-find-movers}
-use Rattle.bridges.proofs.Ahead.{Lawful}
+use Rattle.journal.proofs.Ahead.{Lawful}
 use Rattle.bridges.proofs.Racks.{placed-front, stands-taking, rising-earlier}
 use Rattle.bridges.proofs.OneMore.{never-served}
 use Rattle.bridges.proofs.Counts.{one-apart}

@@ -14,7 +14,7 @@ use Rattle.journal.specs.Folders.{ahead, ahead-of-all, in-order, placed, rest}
 use Rattle.journal.specs.Replay.{replay, rack-after, waiting}
 use Rattle.bridges.specs.Racks.{Rising, Stands, Served, gone}
 use Rattle.bridges.specs.Counting.{rack-at}
-use Rattle.bridges.proofs.Ahead.{Lawful, ahead-asymmetric, ahead-irreflexive}
+use Rattle.journal.proofs.Ahead.{Lawful, ahead-asymmetric, ahead-irreflexive}
 use Rattle.bridges.proofs.Racks.{stands-arrival, stands-taking, placed-front, placed-swap}
 use Rattle.bridges.proofs.OneMore.{never-served}
 use Rattle.bridges.proofs.Members.{Among, among-placed}

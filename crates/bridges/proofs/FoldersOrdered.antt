@@ -7,7 +7,7 @@ use Rattle.std.proofs.shelf.Tests.{both-ways, and-parts}
 use Rattle.journal.specs.declared.folder.Folder.{Folder}
 use Rattle.journal.specs.Folders.{ahead, ahead-of-all, in-order, Foremost, foremost-of}
 use Rattle.bridges.specs.Folders.{Folders-ordered}
-use Rattle.bridges.proofs.Ahead.{Lawful, ahead-asymmetric, ahead-transitive, ahead-total}
+use Rattle.journal.proofs.Ahead.{Lawful, ahead-asymmetric, ahead-transitive, ahead-total}
 use Rattle.bridges.proofs.Members.{Among}
 use Rattle.bridges.proofs.Journals.{rising-journal}
 use Rattle.bridges.proofs.Places.{stands-at}

@@ -16,7 +16,7 @@ use Rattle.journal.specs.Folders.{placed, in-order, ahead-of-all}
 use Rattle.journal.specs.Replay.{stamp-of, rising, by-stamp, dated, entered, struck, replay, fetches, fetches-from}
 use Rattle.journal.specs.Movers.{entry-at}
 use Rattle.bridges.specs.Racks.{Below, Rising, Stands, Served}
-use Rattle.bridges.proofs.Ahead.{Lawful}
+use Rattle.journal.proofs.Ahead.{Lawful}
 use Rattle.bridges.proofs.Racks.{below-later, below-placed, in-order-placed, rising-earlier}
 use Rattle.bridges.proofs.OneMore.{never-served}
 

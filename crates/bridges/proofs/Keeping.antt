@@ -15,10 +15,11 @@ use Rattle.journal.specs.declared.call.Call.{Call}
 use Rattle.journal.specs.declared.call.Call.the-variants as call
 use Rattle.journal.specs.Folders.{placed}
 use Rattle.journal.specs.Replay.{stamp-of, replay, waiting, entered, struck}
-use Rattle.journal.specs.Calls.{joined, or-as-before, as-meant, correction, later-journal}
+use Rattle.journal.specs.Refusals.{later}
+use Rattle.journal.specs.Calls.{joined, as-meant, correction, later-journal}
 use Rattle.bridges.specs.Law.{Asked, journal-after, Moves-as}
 use Rattle.bridges.specs.Keeping.{Fit, All-fit, Keeps}
-use Rattle.bridges.proofs.Ahead.{Lawful}
+use Rattle.journal.proofs.Ahead.{Lawful}
 use Rattle.bridges.proofs.Sums.{length-placed}
 use Rattle.bridges.proofs.Calls.{Ruled, entering-ruled, revoking-ruled, step}
 
@@ -63,9 +64,9 @@ module _ {P : Type 0} (nb : P → P → Bool) (canonical : P → P) where
       go false ih = (a .0, ih)
 
   -- a property of journals that the corrected one has, and the old one
-  either-way : (holds : List (Entry P) → Type 0) (o : Told (List (Entry P))) (es corrected : List (Entry P)) (reason : Type 0) → Ruled o corrected reason → (reason → holds corrected) → holds es → holds (or-as-before o es)
-  either-way holds o es corrected reason (inl k) then h = subst (λ x. holds (or-as-before x es)) (sym (k .0)) (then (k .1))
-  either-way holds o es corrected reason (inr k) then h = subst (λ x. holds (or-as-before x es)) (sym (k .2)) h
+  either-way : (holds : List (Entry P) → Type 0) (o : Told (List (Entry P))) (es corrected : List (Entry P)) (reason : Type 0) → Ruled o corrected reason → (reason → holds corrected) → holds es → holds (later o es)
+  either-way holds o es corrected reason (inl k) then h = subst (λ x. holds (later x es)) (sym (k .0)) (then (k .1))
+  either-way holds o es corrected reason (inr k) then h = subst (λ x. holds (later x es)) (sym (k .2)) h
 
   step-within : (capacity : ℕ) (es : List (Entry P)) (c : Call P) → length es ≤ capacity → length (later-journal nb canonical capacity es c) ≤ capacity
   step-within capacity es (call.Arrival f) le =

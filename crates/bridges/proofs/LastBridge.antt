@@ -14,7 +14,7 @@ use Rattle.journal.specs.Folders.{ahead, ahead-of-all, in-order}
 use Rattle.journal.specs.Replay.{rack-after}
 use Rattle.bridges.specs.Racks.{Rising, gone}
 use Rattle.bridges.specs.Counting.{rack-at}
-use Rattle.bridges.proofs.Ahead.{Lawful, ahead-transitive}
+use Rattle.journal.proofs.Ahead.{Lawful, ahead-transitive}
 use Rattle.bridges.proofs.Members.{Among}
 use Rattle.bridges.proofs.Places.{step-at, stands-at}
 use Rattle.bridges.proofs.Bridges.{Doomed-at}

@@ -1,4 +1,3 @@
-pub mod Ahead
 pub mod Racks
 pub mod OneMore
 pub mod Journals

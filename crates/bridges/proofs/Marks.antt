@@ -30,7 +30,7 @@ use Rattle.bridges.specs.Racks.{Rising}
 use Rattle.bridges.specs.Movers.{One-apart}
 use Rattle.bridges.specs.Rules.{hindmost-since-bridge, hinder, arrival-rule, taking-rule, fetched-revoked-rule, taking-revoked-rule, Kept}
 use Rattle.bridges.specs.Marks.{mover-marked, arrival-change, arrival-rows, taking-rows, waiting-revoked-rows, fetched-revoked-rows, taking-revoked-rows, Carries, Marks-kept}
-use Rattle.bridges.proofs.Ahead.{Lawful, ahead-irreflexive}
+use Rattle.journal.proofs.Ahead.{Lawful, ahead-irreflexive}
 use Rattle.bridges.proofs.Racks.{rising-earlier}
 use Rattle.bridges.proofs.Counts.{arrivals}
 use Rattle.bridges.proofs.Members.{Among, among-has-stamp, has-stamp-among, among-placed, waiting-arrived}

@@ -14,7 +14,7 @@ use Rattle.journal.specs.Replay.{replay, waiting, entered, struck, folders-of}
 use Rattle.journal.specs.Movers.{arrival-mover, taking-mover}
 use Rattle.bridges.specs.Racks.{Rising, Stands, Served, gone}
 use Rattle.bridges.specs.Movers.{One-apart, Arrival-moves, Taking-moves, Movers-law}
-use Rattle.bridges.proofs.Ahead.{Lawful}
+use Rattle.journal.proofs.Ahead.{Lawful}
 use Rattle.bridges.proofs.Racks.{rising-earlier, placed-front, stands-taking}
 use Rattle.bridges.proofs.OneMore.{one-more, never-served}
 use Rattle.bridges.proofs.Journals.{Older, Corrected, entering, striking, rising-journal, rising-append, older-later, replay-append, served-parts, served-sound, fetches-from-append, stands-after, order-replay}

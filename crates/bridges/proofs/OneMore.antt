@@ -12,7 +12,7 @@ use Rattle.journal.specs.declared.entry.Entry.{Entry}
 use Rattle.journal.specs.declared.entry.Entry.the-variants.{Arrival, Taking}
 use Rattle.journal.specs.Folders.{ahead, ahead-of-all, in-order, placed, hindmost-of, rest}
 use Rattle.journal.specs.Replay.{replay}
-use Rattle.bridges.proofs.Ahead.{Lawful}
+use Rattle.journal.proofs.Ahead.{Lawful}
 use Rattle.bridges.specs.Racks.{Stands, Served, gone}
 use Rattle.bridges.proofs.Racks.{stands-arrival, stands-taking, placed-swap, placed-front}
 

@@ -27,7 +27,7 @@ use Rattle.bridges.specs.Racks.{Rising}
 use Rattle.bridges.specs.Counting.{count, rack-at, will-be-fetched}
 use Rattle.bridges.specs.Rules.{Kept}
 use Rattle.bridges.specs.Places.{Places-told}
-use Rattle.bridges.proofs.Ahead.{Lawful, ahead-asymmetric, ahead-irreflexive}
+use Rattle.journal.proofs.Ahead.{Lawful, ahead-asymmetric, ahead-irreflexive}
 use Rattle.bridges.proofs.Racks.{rising-earlier}
 use Rattle.bridges.proofs.Counts.{arrivals}
 use Rattle.bridges.proofs.Members.{Among, none-counted, same-stamp}

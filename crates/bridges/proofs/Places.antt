@@ -13,7 +13,7 @@ use Rattle.journal.specs.Folders.{placed}
 use Rattle.journal.specs.Replay.{replay, rack-after, waiting, fetched}
 use Rattle.bridges.specs.Racks.{Rising, Stands, Served, gone}
 use Rattle.bridges.specs.Counting.{rack-at}
-use Rattle.bridges.proofs.Ahead.{Lawful}
+use Rattle.journal.proofs.Ahead.{Lawful}
 use Rattle.bridges.proofs.Racks.{stands-arrival, stands-taking}
 use Rattle.bridges.proofs.Journals.{replay-append, served-parts}
 use Rattle.bridges.proofs.Members.{Among, among-left, among-right}

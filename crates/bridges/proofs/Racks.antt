@@ -10,7 +10,7 @@ use Rattle.journal.specs.declared.entry.Entry.{Entry}
 use Rattle.journal.specs.declared.entry.Entry.the-variants.{Arrival, Taking}
 use Rattle.journal.specs.Folders.{ahead, ahead-of-all, in-order, placed}
 use Rattle.bridges.specs.Racks.{Below, Rising, Stands}
-use Rattle.bridges.proofs.Ahead.{Lawful, ahead-asymmetric, ahead-transitive, ahead-total}
+use Rattle.journal.proofs.Ahead.{Lawful, ahead-asymmetric, ahead-transitive, ahead-total}
 
 module _ {P : Type 0} where
   pub below-later : (m n : ℕ) (fs : List (Folder P)) → m ≤ n → Below m fs → Below n fs

@@ -24,7 +24,7 @@ use Rattle.journal.specs.Searches.{earlier, place-in, low, least-from, greatest
 use Rattle.bridges.specs.Racks.{Rising, Served, gone}
 use Rattle.bridges.specs.Counting.{count, rack-at}
 use Rattle.bridges.specs.Rules.{and-then, folder-at, hinder, hindmost-since-bridge, foremost-before-bridge}
-use Rattle.bridges.proofs.Ahead.{Lawful, ahead-asymmetric, ahead-transitive, ahead-cotransitive}
+use Rattle.journal.proofs.Ahead.{Lawful, ahead-asymmetric, ahead-transitive, ahead-cotransitive}
 use Rattle.bridges.proofs.Counts.{arrivals}
 use Rattle.bridges.proofs.Members.{Among, among-start, among-end, among-has-stamp, none-counted, same-stamp, fetched-not-waiting, waiting-arrived, fetched-arrived}
 use Rattle.bridges.proofs.Places.{waiting-at, fetched-later, fetched-earlier, stands-at}
@@ -183,5 +183,5 @@ module _ {P : Type 0} (nb : P → P → Bool) (L : Lawful nb) where
         first = (inl refl, λ g m. each g m)
           where
             each : (g : Folder P) → Among g (h ∷ others) → ahead nb g h ≡ false
-            each g (inl e) = rw e (Rattle.bridges.proofs.Ahead.ahead-irreflexive nb L h)
+            each g (inl e) = rw e (Rattle.journal.proofs.Ahead.ahead-irreflexive nb L h)
             each g (inr m) = ahead-asymmetric nb L h g (ahead-of-each nb h g others (and-parts (ahead-of-all nb h others) (in-order nb others) order .0) m)

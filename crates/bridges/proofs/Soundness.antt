@@ -19,7 +19,7 @@ use Rattle.journal.specs.Replay.{replay, waiting, sound, first-unserved, by-sta
 use Rattle.journal.specs.Rows.{entries}
 use Rattle.bridges.specs.Racks.{Rising, Stands, Served, gone}
 use Rattle.bridges.specs.Soundness.{Soundness-by-stock, before-low, new-or-before-low, unserved-entered, unserved-struck}
-use Rattle.bridges.proofs.Ahead.{Lawful}
+use Rattle.journal.proofs.Ahead.{Lawful}
 use Rattle.bridges.proofs.Racks.{stands-arrival, stands-taking, placed-swap, placed-front}
 use Rattle.bridges.proofs.OneMore.{never-served, one-more-served}
 use Rattle.bridges.proofs.Journals.{Older, entering, striking, rising-journal, rising-append, older-later, replay-append, served-parts, served-join, served-sound, sound-served, stands-after}

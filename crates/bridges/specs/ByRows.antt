@@ -22,7 +22,8 @@ use Rattle.journal.specs.Replay.{dated, waiting, stood}
 use Rattle.journal.specs.Rows.{entries}
 use Rattle.journal.specs.Searches.{earlier}
 use Rattle.journal.specs.Entering.{stamp-in-range, enter-rule}
-use Rattle.journal.specs.Calls.{Answer, joined, left, counted, waits-at, standing-is, stood-there, and-so, or-as-before, moved, as-meant, defined-reply, later-journal}
+use Rattle.journal.specs.Refusals.{later}
+use Rattle.journal.specs.Calls.{Answer, joined, left, counted, waits-at, standing-is, stood-there, and-so, moved, as-meant, defined-reply, later-journal}
 use Rattle.bridges.specs.Soundness.{unserved-entered, unserved-struck}
 use Rattle.bridges.specs.Rules.{arrival-rule, taking-rule, fetched-revoked-rule, taking-revoked-rule, Kept}
 use Rattle.bridges.specs.Marks.{arrival-rows, taking-rows, waiting-revoked-rows, fetched-revoked-rows, taking-revoked-rows, Carries}
@@ -73,10 +74,10 @@ module _ {P : Type 0} (notBehind : P → P → Bool) (canonical : P → P) where
   -- the rows after a call
   abbrev pub rows-after : ℕ → List (Row P) → Call P → List (Row P)
   rows-after capacity rs (call.Arrival f) =
-      or-as-before (and-so (enter-rule capacity (entries rs) (entry.Arrival (as-meant notBehind canonical f))) (λ es. told (arrival-rows notBehind rs (as-meant notBehind canonical f)))) rs
+      later (and-so (enter-rule capacity (entries rs) (entry.Arrival (as-meant notBehind canonical f))) (λ es. told (arrival-rows notBehind rs (as-meant notBehind canonical f)))) rs
   rows-after capacity rs (call.Taking s) =
-      or-as-before (and-so (enter-rule capacity (entries rs) (entry.Taking s)) (λ es. unless-unserved (unserved-entered rs s) (told (taking-rows notBehind rs s)))) rs
-  rows-after capacity rs (call.Revoke s) = or-as-before (cond (stamp-in-range s) (revoke-rows rs s (row-dated rs s)) (refused 1 [])) rs
+      later (and-so (enter-rule capacity (entries rs) (entry.Taking s)) (λ es. unless-unserved (unserved-entered rs s) (told (taking-rows notBehind rs s)))) rs
+  rows-after capacity rs (call.Revoke s) = later (cond (stamp-in-range s) (revoke-rows rs s (row-dated rs s)) (refused 1 [])) rs
   rows-after capacity rs call.WaitingCount = rs
   rows-after capacity rs (call.WaitingAt k) = rs
   rows-after capacity rs (call.Standing s) = rs

@@ -20,7 +20,7 @@ use Rattle.journal.specs.declared.call.Reply.the-variants as reply
 use Rattle.journal.specs.Folders.{has-stamp}
 use Rattle.journal.specs.Replay.{struck, dated, waiting, stood, first-unserved}
 use Rattle.journal.specs.Movers.{entry-at, arrival-mover, taking-mover}
-use Rattle.journal.specs.Refusals.{book-refusal}
+use Rattle.journal.specs.Refusals.{book-refusal, later}
 use Rattle.journal.specs.Entering.{stamp-in-range, enter-rule}
 
 -- what a book tells where it does not refuse
@@ -46,11 +46,6 @@ told-by (reply.Refused r) spare = refused (book-refusal r .0) (book-refusal r .1
 abbrev pub and-so : {A B : Type 0} → Told A → (A → Told B) → Told B
 and-so (told a) next = next a
 and-so (refused n vs) next = refused n vs
-
--- a journal's new state, or the old one where the change is refused
-abbrev pub or-as-before : {A : Type 0} → Told A → A → A
-or-as-before (told a) before = a
-or-as-before (refused n vs) before = before
 
 -- a journal in which some taking finds no folder is refused 7, with the stamp of the first such taking
 abbrev pub if-served : {P : Type 0} → List (Entry P) → Option ℕ → Told (List (Entry P))
@@ -91,7 +86,7 @@ module _ {P : Type 0} (notBehind : P → P → Bool) (canonical : P → P) where
 
   -- the journal after a call
   abbrev pub later-journal : ℕ → List (Entry P) → Call P → List (Entry P)
-  later-journal capacity es c = or-as-before (correction capacity es c) es
+  later-journal capacity es c = later (correction capacity es c) es
 
   -- who moves when the entry at a stamp is struck out
   abbrev pub revoke-moves : List (Entry P) → List (Entry P) → ℕ → Option (Entry P) → Told (Answer P)
