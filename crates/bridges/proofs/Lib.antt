@@ -23,3 +23,4 @@ pub mod PlaceForms
 pub mod ByRows
 pub mod FoldersOrdered
 pub mod Keeping
+pub mod Lines
