@@ -22,3 +22,4 @@ pub mod PlaceForms
 pub mod ByRows
 pub mod FoldersOrdered
 pub mod Keeping
+pub mod Lines

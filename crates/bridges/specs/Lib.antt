@@ -10,3 +10,4 @@ pub mod Places
 pub mod ByRows
 pub mod ShortCuts
 pub mod Keeping
+pub mod Lines

@@ -7,6 +7,7 @@ ghost use Rattle.bridges.specs.Counting.{Counting};
 ghost use Rattle.bridges.specs.Folders.{Folders-ordered};
 ghost use Rattle.bridges.specs.Keeping.{Keeps};
 ghost use Rattle.bridges.specs.Law.{Law-of-calls};
+ghost use Rattle.bridges.specs.Lines.{Line-follows};
 ghost use Rattle.bridges.specs.Marks.{Marks-kept};
 ghost use Rattle.bridges.specs.Movers.{Movers-law, Rack-follows};
 ghost use Rattle.bridges.specs.Places.{Places-told};
@@ -66,6 +67,11 @@ pub fn bridges_find_movers<P: Priority>()
 // After a rule's change of rows the marks agree with the replay of the corrected journal.
 pub fn marks_stay_right<P: Priority>()
     ensures { λ _. ⌜ Marks-kept (P·Priority .notBehind) ⌝ }
+{}
+
+// A date line's own rules accept each part of a rule's change of rows.
+pub fn line_follows<P: Priority>()
+    ensures { λ _. ⌜ Line-follows P ⌝ }
 {}
 
 // Over any list of calls, by the defined replies: only an accepted correction changes the waiting list, by the one folder
