@@ -20,7 +20,7 @@ use Rattle.journal.specs.Calls.{joined, as-meant, correction, later-journal}
 use Rattle.bridges.specs.Law.{Asked, journal-after, Moves-as}
 use Rattle.bridges.specs.Keeping.{Fit, All-fit, Keeps}
 use Rattle.journal.proofs.Ahead.{Lawful}
-use Rattle.bridges.proofs.Sums.{length-placed}
+use Rattle.journal.proofs.Placed.{length-placed}
 use Rattle.bridges.proofs.Calls.{Ruled, entering-ruled, revoking-ruled, step}
 
 module _ {P : Type 0} where

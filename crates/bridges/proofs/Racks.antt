@@ -11,6 +11,7 @@ use Rattle.journal.specs.declared.entry.Entry.the-variants.{Arrival, Taking}
 use Rattle.journal.specs.Folders.{ahead, ahead-of-all, in-order, placed}
 use Rattle.bridges.specs.Racks.{Below, Rising, Stands}
 use Rattle.journal.proofs.Ahead.{Lawful, ahead-asymmetric, ahead-transitive, ahead-total}
+use Rattle.journal.proofs.Placed.{ahead-of-all-placed, ahead-of-all-through}
 
 module _ {P : Type 0} where
   pub below-later : (m n : ℕ) (fs : List (Folder P)) → m ≤ n → Below m fs → Below n fs
@@ -35,10 +36,6 @@ module _ {P : Type 0} (nb : P → P → Bool) where
   placed-front f [] h = refl
   placed-front f (g ∷ gs) h = cond-true (ahead nb f g) _ _ (and-parts (ahead nb f g) (ahead-of-all nb f gs) h .0)
 
-  ahead-of-all-placed : (g f : Folder P) (fs : List (Folder P)) → ahead nb g f ≡ true → ahead-of-all nb g fs ≡ true → ahead-of-all nb g (placed nb f fs) ≡ true
-  ahead-of-all-placed g f [] h k = grind arith
-  ahead-of-all-placed g f (d ∷ ds) h k = let ih = ahead-of-all-placed g f ds h (and-parts (ahead nb g d) (ahead-of-all nb g ds) k .1) in grind arith
-
 module _ {P : Type 0} (nb : P → P → Bool) (L : Lawful nb) where
   -- two folders of different stamps can be set in place in either order
   pub placed-swap : (f x : Folder P) (fs : List (Folder P)) → (f .stamp ≡ x .stamp → ⊥) → placed nb f (placed nb x fs) ≡ placed nb x (placed nb f fs)
@@ -51,12 +48,6 @@ module _ {P : Type 0} (nb : P → P → Bool) (L : Lawful nb) where
       let q = ahead-transitive nb L x f g in
       grind arith
 
-  ahead-of-all-through : (f g : Folder P) (fs : List (Folder P)) → ahead nb f g ≡ true → ahead-of-all nb g fs ≡ true → ahead-of-all nb f fs ≡ true
-  ahead-of-all-through f g [] h k = refl
-  ahead-of-all-through f g (d ∷ ds) h k =
-      let both = and-parts (ahead nb g d) (ahead-of-all nb g ds) k in
-      and-from _ _ (ahead-transitive nb L f g d h (both .0)) (ahead-of-all-through f g ds h (both .1))
-
   -- a later folder set in place leaves a rack in order
   pub in-order-placed : (n : ℕ) (f : Folder P) (fs : List (Folder P)) → Below n fs → n ≤ f .stamp → in-order nb fs ≡ true → in-order nb (placed nb f fs) ≡ true
   in-order-placed n f [] b le o = refl
@@ -67,7 +58,7 @@ module _ {P : Type 0} (nb : P → P → Bool) (L : Lawful nb) where
       go (ahead nb f g) refl both ih t
     where
       go : (t : Bool) → ahead nb f g ≡ t → (ahead-of-all nb g gs ≡ true) × (in-order nb gs ≡ true) → in-order nb (placed nb f gs) ≡ true → (ahead nb f g ≡ false → ahead nb g f ≡ true) → in-order nb (cond t (f ∷ g ∷ gs) (g ∷ placed nb f gs)) ≡ true
-      go true e both ih t = and-from _ _ (and-from _ _ e (ahead-of-all-through f g gs e (both .0))) o
+      go true e both ih t = and-from _ _ (and-from _ _ e (ahead-of-all-through nb L f g gs e (both .0))) o
       go false e both ih t = and-from _ _ (ahead-of-all-placed nb g f gs (t e) (both .0)) ih
 
   abbrev pub stands-arrival : (f : Folder P) (rack : List (Folder P)) (es : List (Entry P)) → Stands nb rack (Arrival f ∷ es) → Stands nb (placed nb f rack) es

@@ -26,7 +26,8 @@ use Rattle.bridges.proofs.Racks.{rising-earlier}
 use Rattle.bridges.proofs.OneMore.{never-served}
 use Rattle.bridges.proofs.Journals.{Older, served-parts}
 use Rattle.bridges.proofs.Places.{step-at, rack-seam, drop-seam, rack-next, drop-next}
-use Rattle.bridges.proofs.Sums.{stock-at, length-placed}
+use Rattle.bridges.proofs.Sums.{stock-at}
+use Rattle.journal.proofs.Placed.{length-placed}
 
 -- the stamp of the first taking that finds no folder, where n folders are there at the beginning
 abbrev pub unserved : {P : Type 0} → ℕ → List (Entry P) → Option ℕ

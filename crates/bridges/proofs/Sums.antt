@@ -18,6 +18,7 @@ use Rattle.journal.specs.declared.row.Mark.the-variants.{Waiting, Fetched}
 use Rattle.journal.specs.Folders.{placed, has-stamp}
 use Rattle.journal.specs.Replay.{replay, waiting}
 use Rattle.journal.specs.Rows.{entry-of, entries, stock-step, balance-step, sum-of, stock, balance, row-of, marked}
+use Rattle.journal.proofs.Placed.{length-placed}
 use Rattle.bridges.specs.Racks.{Rising, Served, gone}
 use Rattle.bridges.specs.Counting.{count, rack-at}
 use Rattle.bridges.proofs.OneMore.{never-served}
@@ -26,13 +27,9 @@ use Rattle.bridges.proofs.Members.{Among, fetched-not-waiting}
 use Rattle.bridges.proofs.Places.{served-at, fetched-earlier}
 
 module _ {P : Type 0} (nb : P → P → Bool) where
-  pub length-placed : (f : Folder P) (fs : List (Folder P)) → length (placed nb f fs) ≡ suc (length fs)
-  length-placed f [] = refl
-  length-placed f (g ∷ gs) = let ih = length-placed f gs in grind arith
-
   stock-tally : (rs : List (Row P)) (rack : List (Folder P)) → Served nb rack (entries rs) → pos (length rack) +ℤ sum-of stock-step rs ≡ pos (length (replay nb rack (entries rs)))
   stock-tally [] rack s = omega (arith, ints)
-  stock-tally (row.Arrival f m ∷ rs) rack s = let ih = stock-tally rs (placed nb f rack) s in let p = length-placed f rack in omega (arith, ints)
+  stock-tally (row.Arrival f m ∷ rs) rack s = let ih = stock-tally rs (placed nb f rack) s in let p = length-placed nb f rack in omega (arith, ints)
   stock-tally (row.Taking t ∷ rs) [] s = absurd (never-served t s)
   stock-tally (row.Taking t ∷ rs) (y ∷ rack) s = let ih = stock-tally rs rack s in omega (arith, ints)
 

@@ -54,7 +54,7 @@ module _ {P : Type 0} (nb : P → P → Bool) where
   length-taken-out p s [] = omega arith
   length-taken-out p s (g ∷ gs) = let ih = length-taken-out p s gs in grind arith
 
-  ahead-of-all-placed : (g f : Folder P) (fs : List (Folder P)) → ahead nb g f ≡ true → ahead-of-all nb g fs ≡ true → ahead-of-all nb g (placed nb f fs) ≡ true
+  pub ahead-of-all-placed : (g f : Folder P) (fs : List (Folder P)) → ahead nb g f ≡ true → ahead-of-all nb g fs ≡ true → ahead-of-all nb g (placed nb f fs) ≡ true
   ahead-of-all-placed g f [] h k = grind arith
   ahead-of-all-placed g f (d ∷ ds) h k = let ih = ahead-of-all-placed g f ds h in grind arith
 
@@ -71,7 +71,7 @@ module _ {P : Type 0} (nb : P → P → Bool) (L : Lawful nb) where
   ahead-or-alike : (f g : Folder P) → same-key nb (f .priority) (f .stamp) g ≡ false → ahead nb f g ≡ false → ahead nb g f ≡ true
   ahead-or-alike f g a b = grind (arith, tells, L .total)
 
-  ahead-of-all-through : (f g : Folder P) (fs : List (Folder P)) → ahead nb f g ≡ true → ahead-of-all nb g fs ≡ true → ahead-of-all nb f fs ≡ true
+  pub ahead-of-all-through : (f g : Folder P) (fs : List (Folder P)) → ahead nb f g ≡ true → ahead-of-all nb g fs ≡ true → ahead-of-all nb f fs ≡ true
   ahead-of-all-through f g [] h k = refl
   ahead-of-all-through f g (d ∷ ds) h k = let ih = ahead-of-all-through f g ds h in let t = ahead-transitive nb L f g d h in grind arith
 
