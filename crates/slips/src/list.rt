@@ -91,7 +91,7 @@ impl<P: Copy> EntryList<P> {
     pub fn enter(&mut self, entry: Entry<P>) -> Result<(), SlipFault>
         ensures { λ r. ⌜ Enters (enter-rule most-entries (vec-items (now (self .entry) .items)) entry) (vec-items (now (self .entry) .items)) (vec-items (now (self .exit) .items)) r ⌝ }
     {
-        let place = place_for(self.items.as_slice(), &entry)?;
+        let place = place_for(self.entries(), &entry)?;
         self.items.insert(place, entry)?;
         Ok(())
     }
