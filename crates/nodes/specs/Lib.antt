@@ -1,0 +1,5 @@
+pub mod Tree
+pub mod Holding
+pub mod Summaries
+pub mod Rules
+pub mod Hits
