@@ -35,6 +35,10 @@ card_not_behind a b =
 abbrev pub card_canonical : Card → Card
 card_canonical c = record { day = day_of c; class = class_of c; name = name_of c }
 
+-- equal: the same day, class and name
+abbrev pub card_equals : Card → Card → Bool
+card_equals a b = day_of a == day_of b && (class_of a == class_of b && name_of a == name_of b)
+
 -- the card of three numbers, refused where one is above its bound
 abbrev pub card_made : ℕ → ℕ → ℕ → Told Card
 card_made d k n =

@@ -1,5 +1,5 @@
 -- A lawful order by its one question, the test `not_behind a b`: is priority a not behind priority b?
-use Rattle.std.specs.Prelude.{Bool, true, false, not, ◌&&◌}
+use Rattle.std.specs.Prelude.{Bool, not, ◌&&◌}
 
 module _ {P : Type 0} (not_behind : P → P → Bool) where
   -- a is behind b: the question is answered no

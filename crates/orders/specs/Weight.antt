@@ -20,6 +20,10 @@ weight_not_behind a b = nat_le (decoded a) (decoded b)
 abbrev pub weight_canonical : Weight → Weight
 weight_canonical w = record { held = decoded w }
 
+-- equal: the same decoded bytes
+abbrev pub weight_equals : Weight → Weight → Bool
+weight_equals a b = decoded a == decoded b
+
 -- the weight of a number of bytes, refused above the bound
 abbrev pub weight_made : ℕ → Told Weight
 weight_made n = cond (nat_le n most_bytes) (told (record { held = n })) (refused 3 [])

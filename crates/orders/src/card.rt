@@ -1,6 +1,6 @@
 // Cards: a deadline day, a class and a client's name, compared in that order, the lesser ahead.
-ghost use Rattle.std.specs.Prelude.{◌≡◌, Decides};
-ghost use Rattle.orders.specs.Card.{card_not_behind, card_canonical, card_made, card_written, card_reading, day_of, class_of, name_of};
+ghost use Rattle.std.specs.Prelude.{◌≡◌, ◌↔◌, IsTrue};
+ghost use Rattle.orders.specs.Card.{card_not_behind, card_canonical, card_equals, card_made, card_written, card_reading, day_of, class_of, name_of};
 ghost use Rattle.orders.specs.Refusal.{reply, priority_refusal};
 ghost use Rattle.std.proofs.Common.{rules};
 ghost use Rattle.std.specs.Cmp.Rules.{comparing};
@@ -93,11 +93,14 @@ impl Priority for Card {
 
 // Two cards are equal where they mean the same.
 impl PartialEq for Card {
-    ghost equals = { λ a b r. Decides r (card_canonical a ≡ card_canonical b) };
+    ghost eq = { card_equals };
 
     ghost laws = { Prim.search (comparing, rules) };
 
-    fn eq(&self, other: &Card) -> bool {
+    fn eq(&self, other: &Card) -> bool
+        ensures value { result ≡ card_equals self.now other.now }
+        ensures meaning { IsTrue result ↔ (card_canonical self.now ≡ card_canonical other.now) }
+    {
         self.day() == other.day() && self.class() == other.class() && self.name() == other.name()
     }
 }

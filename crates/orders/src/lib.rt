@@ -1,4 +1,6 @@
 // The interface of a lawful order, the two kinds of priority, and their written forms.
+#![tactic(auto)]
+
 mod bytes;
 pub mod card;
 pub mod priority;

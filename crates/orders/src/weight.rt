@@ -1,7 +1,7 @@
 // Weights: decoded image bytes, the lesser ahead.
-ghost use Rattle.std.specs.Prelude.{◌≡◌, Decides};
+ghost use Rattle.std.specs.Prelude.{◌≡◌, ◌↔◌, IsTrue};
 ghost use Rattle.orders.specs.Refusal.{reply, priority_refusal};
-ghost use Rattle.orders.specs.Weight.{decoded, weight_not_behind, weight_canonical, weight_made, weight_written, weight_reading};
+ghost use Rattle.orders.specs.Weight.{decoded, weight_not_behind, weight_canonical, weight_equals, weight_made, weight_written, weight_reading};
 ghost use Rattle.std.proofs.Common.{rules};
 ghost use Rattle.std.specs.Cmp.Rules.{comparing};
 ghost use Rattle.orders.specs.WrittenForms.{weight_back, weight_only};
@@ -61,11 +61,14 @@ impl Priority for Weight {
 
 // Two weights are equal where they mean the same.
 impl PartialEq for Weight {
-    ghost equals = { λ a b r. Decides r (weight_canonical a ≡ weight_canonical b) };
+    ghost eq = { weight_equals };
 
     ghost laws = { Prim.search (comparing, rules) };
 
-    fn eq(&self, other: &Weight) -> bool {
+    fn eq(&self, other: &Weight) -> bool
+        ensures value { result ≡ weight_equals self.now other.now }
+        ensures meaning { IsTrue result ↔ (weight_canonical self.now ≡ weight_canonical other.now) }
+    {
         self.bytes() == other.bytes()
     }
 }

@@ -38,8 +38,8 @@ pub fn reads_back<P: Written>(p: &P) -> Result<P, PriorityFault>
 
 // Reads twelve bytes: those that read as a priority are the ones that write it.
 pub fn reads_only<P: Written>(bytes: &[u8; 12]) -> Result<P, PriorityFault>
-    ensures value { reply priority_refusal result ≡ reading bytes.now }
-    ensures only { (p : P) → reply priority_refusal result ≡ told p → bytes.now ≡ written p }
+    ensures value { reply priority_refusal result ≡ P.reading bytes.now }
+    ensures only { (p : P) → reply priority_refusal result ≡ told p → bytes.now ≡ P.written p }
 {
     P::read(bytes)
 }

@@ -1,4 +1,4 @@
-use Rattle.std.proofs.Common.{◌≡◌, ℕ, List, [], drop, arith, drop_of_length-le}
+use Rattle.std.proofs.Common.{◌≡◌, [], drop, arith, drop_of_length-le}
 use Rattle.orders.specs.Numbers.{number_drop}
 use Rattle.orders.proofs.bytes.last_eight.Goals as goal
 
