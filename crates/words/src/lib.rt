@@ -1,4 +1,7 @@
 // Lines, words and numbers of the programs' language.
+
+#![tactic(auto)]
+
 ghost use Rattle.std.specs.Prelude.{◌≡◌, ℕ, ◌+◌, ◌≤◌, Bool, not, length, drop, ◌==◌};
 ghost use Rattle.std.specs.List.{prefix_len};
 ghost use Rattle.words.specs.Words.{same, before, after, blank, first_word, past_word, decimal};
@@ -37,7 +40,7 @@ impl ByteTest for Blank {
 
 // How many bytes pass, before the first that does not.
 fn count_while<T: ByteTest>(bytes: &[u8], test: &T) -> usize
-    ensures value { result ≡ prefix_len (passes test.now) bytes.now }
+    ensures value { result ≡ prefix_len (T.passes test.now) bytes.now }
     ensures bound { result ≤ length bytes.now }
 {
     for i in 0..bytes.len() {

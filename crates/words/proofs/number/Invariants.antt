@@ -1,4 +1,4 @@
-use Rattle.std.proofs.Common.{◌≡◌, ℕ, min, true, take, drop}
+use Rattle.std.proofs.Common.{◌≡◌, min, take, drop}
 use Rattle.words.specs.Words.{decimal_after, digits}
 use Rattle.words.proofs.number.Given as goal
 
