@@ -1,3 +1,6 @@
 // Makes of rack.
+
+#![tactic(auto)]
+
 pub mod flat;
 mod front;

@@ -1,4 +1,7 @@
 // The program: reads a week's slips and prints what stands on the rack now, and what goes into each unattended run.
+
+#![tactic(auto)]
+
 mod input;
 mod report;
 

@@ -1,4 +1,7 @@
 // The scapegoat tree: a list by place over lent nodes.
+
+#![tactic(auto)]
+
 pub mod insert_at;
 pub mod links;
 pub mod making;
