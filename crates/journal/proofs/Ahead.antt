@@ -1,5 +1,5 @@
 -- Folders of different stamps stand in a strict total order.
-use Rattle.std.proofs.Common.{◌≡◌, ℕ, Bool, true, false, ltb, arith}
+use Rattle.std.proofs.Common.{◌≡◌, Bool, true, false, arith}
 use Rattle.std.proofs.lemmas.Bool.Decides.{nat_tests}
 use Rattle.journal.specs.declared.folder.Folder.{Folder}
 use Rattle.journal.specs.Folders.{ahead}

@@ -1,5 +1,5 @@
 -- Folders: who is ahead of whom, folders in order, the foremost and the hindmost of some.
-use Rattle.std.specs.Prelude.{◌≡◌, ℕ, Bool, true, false, cond, not, ◌&&◌, ◌||◌, ◌⊎◌, List, [], ◌∷◌, Some, None, Option, ◌==◌, nat_lt}
+use Rattle.std.specs.Prelude.{◌≡◌, ℕ, Bool, true, false, cond, ◌&&◌, ◌||◌, ◌⊎◌, List, [], ◌∷◌, Some, None, Option, ◌==◌, nat_lt}
 use mathlib.Core.List.{Memᴰ}
 use Rattle.orders.specs.Order.{behind, tie}
 use Rattle.journal.specs.declared.folder.Folder.{Folder}

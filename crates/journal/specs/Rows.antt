@@ -1,14 +1,13 @@
 -- Rows: entries with marks, their two running sums, places and bridges, and marks that agree with the replay.
-use Rattle.std.specs.Prelude.{◌≡◌, ℕ, ◌≤◌, Bool, true, false, cond, not, ◌&&◌, ◌||◌, List, [], ◌∷◌, map, length, take, ℤ, pos, negsuc, ◌+ℤ◌}
+use Rattle.std.specs.Prelude.{◌≡◌, ℕ, ◌≤◌, Bool, cond, List, [], ◌∷◌, map, length, take, ℤ, pos, negsuc, ◌+ℤ◌}
 use Rattle.journal.specs.declared.entry.Entry.{Entry}
 use Rattle.journal.specs.declared.entry.Entry.TheVariants.{Arrival, Taking}
 use Rattle.journal.specs.declared.row.Row.{Row}
 use Rattle.journal.specs.declared.row.Row.TheVariants as row
-use Rattle.journal.specs.declared.row.Mark.{Mark}
 use Rattle.journal.specs.declared.row.Mark.TheVariants.{Waiting, Fetched}
 use Rattle.journal.specs.declared.folder.Folder.{Folder}
 use Rattle.journal.specs.Folders.{has_stamp}
-use Rattle.journal.specs.Replay.{waiting, rising}
+use Rattle.journal.specs.Replay.{waiting}
 
 -- the entry of a row
 abbrev pub entry_of : {P : Type 0} → Row P → Entry P

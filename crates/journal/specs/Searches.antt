@@ -1,5 +1,5 @@
 -- The questions that are put to rows: where a stamp stands, where a sum is low, which arrival is hindmost or foremost.
-use Rattle.std.specs.Prelude.{ℕ, zero, suc, ◌+◌, ◌-◌, min, Bool, true, false, cond, not, ◌&&◌, ◌||◌, List, [], ◌∷◌, map, length, take, drop, ℤ, pos, Some, None, Option, int_le, nat_lt}
+use Rattle.std.specs.Prelude.{ℕ, zero, suc, ◌+◌, ◌-◌, min, Bool, cond, List, [], ◌∷◌, length, take, drop, ℤ, pos, Some, None, Option, int_le, nat_lt}
 use Rattle.std.specs.Option.{option_map}
 use Rattle.journal.specs.declared.row.Row.{Row}
 use Rattle.journal.specs.declared.row.Row.TheVariants.{Arrival, Taking}
@@ -7,7 +7,7 @@ use Rattle.journal.specs.declared.row.Mark.{Mark}
 use Rattle.journal.specs.declared.row.Mark.TheVariants.{Waiting, Fetched}
 use Rattle.journal.specs.declared.folder.Folder.{Folder}
 use Rattle.journal.specs.Folders.{hindmost, foremost}
-use Rattle.journal.specs.Replay.{stamp_of, dated, with_front}
+use Rattle.journal.specs.Replay.{stamp_of, dated}
 use Rattle.journal.specs.Rows.{entry_of, entries, stock, balance}
 
 -- how many rows have a lesser stamp

@@ -1,5 +1,5 @@
 -- Short journals by weight, with what their replay leaves before and after a correction.
-use Rattle.std.specs.Prelude.{◌≡◌, ℕ, Bool, true, List, [], ◌∷◌, Some}
+use Rattle.std.specs.Prelude.{◌≡◌, ℕ, true, List, [], ◌∷◌, Some}
 use Rattle.orders.specs.declared.weight.Weight.{Weight}
 use Rattle.orders.specs.Weight.{weight_not_behind}
 use Rattle.journal.specs.declared.entry.Entry.{Entry}
