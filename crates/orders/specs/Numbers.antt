@@ -3,7 +3,7 @@ use Rattle.std.specs.Prelude.{◌≡◌, ℕ, zero, suc, ◌+◌, ◌*◌, ◌/�
 use Rattle.std.proofs.Common.{sym, ap, ◌∙◌, mod-eq_of_lt, mul_assoc, add_comm, arith, length-drop, drop-cons}
 use Rattle.std.proofs.Math.Nat.{mod-one, one-le-pow, pow-succ', add-mul-div_right, add-mul-mod_self_right}
 use Rattle.std.proofs.Math.Arith.{mod-mul, digits_div, digits_lt}
-use Rattle.std.specs.List.{AllByRecursion as All}
+use Rattle.std.specs.List.{AllByRecursion}
 use Rattle.orders.specs.Bytes.{bytes, number}
 
 256-pow-pos : (k : ℕ) → 0 < 256 ^ k
@@ -17,7 +17,7 @@ pub number_bytes : (k n : ℕ) → number (bytes k n) ≡ n % 256 ^ k
 number_bytes zero n = sym (mod-one n)
 number_bytes (suc k) n = rw (length_bytes k n, number_bytes k n, pow-succ' 256 k) (sym (mod-mul n {m = 256} {c = 256 ^ k} (omega arith) (256-pow-pos k)))
 
-pub number_lt : (bs : List ℕ) → All (λ b. b < 256) bs → number bs < 256 ^ length bs
+pub number_lt : (bs : List ℕ) → AllByRecursion (λ b. b < 256) bs → number bs < 256 ^ length bs
 number_lt [] h = omega arith
 number_lt (b ∷ bs) h = rw (pow-succ' 256 (length bs)) (digits_lt h.0 (number_lt bs h.1))
 
@@ -32,7 +32,7 @@ bytes_over (suc k) q n =
     let low : bytes k (q * 256 ^ suc k + n) ≡ bytes k n = ap (bytes k) up ∙ bytes_over k (q * 256) n in
     cc
 
-pub bytes_number : (bs : List ℕ) → All (λ b. b < 256) bs → bytes (length bs) (number bs) ≡ bs
+pub bytes_number : (bs : List ℕ) → AllByRecursion (λ b. b < 256) bs → bytes (length bs) (number bs) ≡ bs
 bytes_number [] h = refl
 bytes_number (b ∷ bs) h =
     let m = 256 ^ length bs in
@@ -47,7 +47,7 @@ number_drop bs i k h =
     let left : length (drop (suc i) bs) ≡ k = length-drop (suc i) bs ∙ omega arith in
     ap number (drop-cons bs i 0 (omega arith)) ∙ ap (λ j. slice_index bs i * 256 ^ j + number (drop (suc i) bs)) left
 
-pub all_bytes : (bs : List ℕ) → ((i : ℕ) → slice_index bs i < 256) → All (λ b. b < 256) bs
+pub all_bytes : (bs : List ℕ) → ((i : ℕ) → slice_index bs i < 256) → AllByRecursion (λ b. b < 256) bs
 all_bytes [] h = tt
 all_bytes (b ∷ bs) h = (h 0, all_bytes bs (λ i. h (suc i)))
 

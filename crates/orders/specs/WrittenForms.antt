@@ -2,7 +2,7 @@
 use Rattle.std.specs.Prelude.{◌≡◌, ℕ, suc, ◌^◌, ◌<◌, ◌≤◌, Bool, true, false, cond, ◌&&◌, List, [], ◌∷◌, ◌++◌, length, ◌==◌, nat_le, refl}
 use Rattle.std.proofs.Common.{sym, ap, ◌∙◌, mod-eq_of_lt, arith}
 use Rattle.std.proofs.lemmas.Bool.Decides.{nat_tests}
-use Rattle.std.specs.List.{AllByRecursion as All}
+use Rattle.std.specs.List.{AllByRecursion}
 use Rattle.orders.specs.declared.weight.Weight.{Weight}
 use Rattle.orders.specs.declared.card.Card.{Card}
 use Rattle.orders.specs.Bytes.{bytes, number, Twelve}
@@ -34,7 +34,7 @@ by_four P p (a ∷ (b ∷ (c ∷ (d ∷ bs)))) h = p a b c d bs
 number_of_bytes : (k n : ℕ) → n < 256 ^ k → number (bytes k n) ≡ n
 number_of_bytes k n h = number_bytes k n ∙ mod-eq_of_lt h
 
-bytes_of_number : (k : ℕ) (bs : List ℕ) → length bs ≡ k → All (λ b. b < 256) bs → bytes k (number bs) ≡ bs
+bytes_of_number : (k : ℕ) (bs : List ℕ) → length bs ≡ k → AllByRecursion (λ b. b < 256) bs → bytes k (number bs) ≡ bs
 bytes_of_number k bs long h = ap (λ j. bytes j (number bs)) (sym long) ∙ bytes_number bs h
 
 is_zero : (n : ℕ) → (n == 0) ≡ true → n ≡ 0

@@ -1,5 +1,5 @@
 -- What a rotation by one of a part leaves of the first n items.
-use Rattle.std.proofs.Common.{◌≡◌, ℕ, suc, ◌+◌, ◌-◌, ◌<◌, ◌≤◌, min, List, [], ◌∷◌, ◌++◌, length, take, drop, set, sym, refl, ap, ◌∙◌, append_assoc, arith, length_append, length-drop, length-set, length-take, take-take, drop-drop, take_at, drop_at}
+use Rattle.std.proofs.Common.{◌≡◌, ℕ, suc, ◌+◌, ◌-◌, ◌<◌, ◌≤◌, List, [], ◌∷◌, ◌++◌, length, take, drop, set, sym, refl, ap, ◌∙◌, append_assoc, arith, length-append, length-drop, length-set, length-take, take-take, drop-drop, take_at, drop_at}
 use borrow.Rule.Slice.PartMut.{put_mid}
 use lib.Seq.{drop-append-le, take-set-le}
 use Rattle.std.proofs.lemmas.List.{take_more_set}
@@ -15,7 +15,7 @@ module _ {X : Type 0} (xs : List X) (n place : ℕ) where
       between_is (set xs n x) place (n + 1) ∙ ap (drop place) (take_more_set xs n x lt) ∙ drop-append-le place (take n xs) (x ∷ []) (omega arith) in
       let m : List X = drop place (take n xs) in
       let short : length (take (n + 1 - place) (drop place (set xs n x))) - 1 ≡ length (drop place (take n xs)) =
-      ap (λ (l : List X). length l - 1) part ∙ ap (λ k. k - 1) (length_append (drop place (take n xs)) (x ∷ [])) ∙ omega arith in
+      ap (λ (l : List X). length l - 1) part ∙ ap (λ k. k - 1) (length-append (drop place (take n xs)) (x ∷ [])) ∙ omega arith in
       e
       ∙ ap (λ (k : ℕ). drop k (take (n + 1 - place) (drop place (set xs n x))) ++ take k (take (n + 1 - place) (drop place (set xs n x)))) short
       ∙ ap (λ (l : List X). drop (length (drop place (take n xs))) l ++ take (length (drop place (take n xs))) l) part
@@ -43,10 +43,10 @@ module _ {X : Type 0} (xs : List X) (n place : ℕ) where
       let rest : length (drop place (take n xs)) ≡ n - place = length-drop place (take n xs) ∙ ap (λ k. k - place) front in
       let cut : length (drop 1 (drop place (take n xs))) ≡ n - place - 1 = length-drop 1 (drop place (take n xs)) ∙ ap (λ k. k - 1) rest in
       let one : length (take 1 (drop place (take n xs))) ≡ 1 = length-take 1 (drop place (take n xs)) ∙ omega arith in
-      let long : length ys ≡ n - place = ap length is ∙ length_append (drop 1 (drop place (take n xs))) _ ∙ omega arith in
+      let long : length ys ≡ n - place = ap length is ∙ length-append (drop 1 (drop place (take n xs))) _ ∙ omega arith in
       let head : length (take place xs) ≡ place = length-take place xs ∙ omega arith in
       sym (take-take (n - 1) n (put_mid place (n - place) xs ys) (omega arith))
       ∙ ap (take (n - 1)) (take-put_mid place (n - place) xs ys n (omega arith) (omega arith) ∙ ap (λ l. take place xs ++ l) is ∙ sym (append_assoc (take place xs) (drop 1 (drop place (take n xs))) _))
-      ∙ take_at (take place xs ++ drop 1 (drop place (take n xs))) (take 1 (drop place (take n xs))) (n - 1) (length_append (take place xs) _ ∙ omega arith)
+      ∙ take_at (take place xs ++ drop 1 (drop place (take n xs))) (take 1 (drop place (take n xs))) (n - 1) (length-append (take place xs) _ ∙ omega arith)
       ∙ ap (λ l. l ++ drop 1 (drop place (take n xs))) (sym (take-take place n xs (omega arith)))
       ∙ ap (λ l. take place (take n xs) ++ l) (drop-drop 1 place (take n xs))

@@ -1,12 +1,11 @@
 use Rattle.std.proofs.Common.{not, arith}
 use Rattle.journal.specs.Folders.{ahead}
-use Rattle.journal.proofs.Ahead.{Lawful}
 use Rattle.racks.proofs.Leading.{leading_within}
 use Rattle.racks.proofs.Walked.{put_present, put_full, put_done}
 use Rattle.racks.proofs.flat.put_in.Goals as goal
 
-pub returns-then-place-of-n : goal.returns-then-place-of-n
-returns-then-place-of-n g c =
+pub returns-then-place_of-n : goal.returns-then-place_of-n
+returns-then-place_of-n g c =
     put_present g.P.Priority.not_behind c.args.slots.now c.args.n (omega arith) (record { total = g.met.P.Priority.total; transitive = g.met.P.Priority.transitive })
     c.args.capacity c.requires.within c.args.folder.now (omega arith)
 
@@ -15,8 +14,8 @@ returns-then-n-capacity g c =
     put_full g.P.Priority.not_behind c.args.slots.now c.args.n (omega arith) (record { total = g.met.P.Priority.total; transitive = g.met.P.Priority.transitive })
     c.args.capacity c.requires.within c.args.folder.now (omega arith) c.if-n-capacity.true
 
-pub insert-at-requires : goal.insert-at-requires
-insert-at-requires g c =
+pub insert_at-requires : goal.insert_at-requires
+insert_at-requires g c =
     record {
       within = omega (arith, leading_within (λ x. not (ahead g.P.Priority.not_behind c.args.folder.now x)) c.args.slots.now c.args.n (omega arith));
       room = omega arith;
@@ -25,4 +24,4 @@ insert-at-requires g c =
 pub returns : goal.returns
 returns g c =
     put_done g.P.Priority.not_behind c.args.slots.now c.args.n (omega arith) (record { total = g.met.P.Priority.total; transitive = g.met.P.Priority.transitive })
-    c.args.capacity c.requires.within c.args.folder.now _ c.place-for-place.result (omega arith) c.if-n-capacity.false c.place-for-place.ensures c.insert-at.ensures
+    c.args.capacity c.requires.within c.args.folder.now _ c.place_for-place.result (omega arith) c.if-n-capacity.false c.place_for-place.ensures c.insert_at.ensures

@@ -8,5 +8,5 @@ returns-then-place-n g c =
 
 pub returns : goal.returns
 returns g c =
-    remove_done g.P.Priority.not_behind c.args.slots.now c.args.n c.requires c.args.priority.now c.args.stamp _ c.place-of-place.result
-    c.if-place-n.false c.place-of-place.ensures c.remove-at.ensures
+    remove_done g.P.Priority.not_behind c.args.slots.now c.args.n c.requires c.args.priority.now c.args.stamp _ c.place_of-place.result
+    c.if-place-n.false c.place_of-place.ensures c.remove_at.ensures
