@@ -1,5 +1,5 @@
 -- Walks over entries: whether a stamp is there, and where an entry goes.
-use Rattle.std.proofs.Common.{◌≡◌, ℕ, suc, ◌+◌, ◌<◌, ◌≤◌, Bool, true, false, cond, not, ◌&&◌, ◌||◌, eqb, ltb, List, [], ◌∷◌, ◌++◌, map, length, get_or, take, drop, sym, refl, ap, ◌∙◌, add-one, one-add, arith, drop-cons}
+use Rattle.std.proofs.Common.{◌≡◌, ℕ, suc, ◌+◌, ◌<◌, ◌≤◌, Bool, true, false, cond, ◌&&◌, ltb, List, [], ◌∷◌, length, get_or, drop, sym, refl, ap, ◌∙◌, add-one, one-add, arith, drop-cons}
 use Rattle.std.specs.List.{prefix_len, insert}
 use Rattle.std.proofs.lemmas.Bool.Decides.{nat_tests}
 use Rattle.journal.specs.declared.entry.Entry.{Entry}
@@ -7,7 +7,7 @@ use Rattle.orders.specs.Refusal.{told}
 use Rattle.journal.specs.Entering.{enter_rule, stamp_in_range, number_in_range}
 use Rattle.journal.specs.Racks.{most_entries}
 use Rattle.slips.specs.Enter.{Admitted}
-use Rattle.journal.specs.Replay.{stamp_of, dated, entered, rising, by_stamp}
+use Rattle.journal.specs.Replay.{stamp_of, dated, entered, by_stamp}
 
 pub drop_next : {X : Type 0} (xs : List X) (i : ℕ) (x : X) → i < length xs → x ≡ get_or xs i x → drop i xs ≡ x ∷ drop (i + 1) xs
 drop_next xs i x lt is = rw (add-one i) (drop-cons xs i x lt ∙ ap (λ y. y ∷ drop (suc i) xs) (sym is))

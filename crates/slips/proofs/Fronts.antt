@@ -1,5 +1,5 @@
 -- Fronts of a list and what they sum to.
-use Rattle.std.proofs.Common.{◌≡◌, ℕ, ◌+◌, ◌<◌, ◌≤◌, List, length, get_or, take, sum_by, sym, refl, ap, ◌∙◌, ⊎_elim, arith, take-take}
+use Rattle.std.proofs.Common.{ℕ, ◌+◌, ◌<◌, ◌≤◌, List, take, sum_by, ap, ⊎_elim, arith, take-take}
 use Rattle.std.proofs.lemmas.Bool.Decides.{leb_tells}
 use Rattle.std.proofs.lemmas.List.Sums.{sum_by-take-le}
 

@@ -1,5 +1,5 @@
 -- A replay under way: the rack so far, with the entries still to come, leaves what the whole journal leaves.
-use Rattle.std.proofs.Common.{◌≡◌, ℕ, suc, ◌+◌, ◌<◌, ◌≤◌, Bool, true, false, cond, not, ◌&&◌, ◌||◌, eqb, ltb, leb, List, [], ◌∷◌, length, get_or, drop, is_some, Some, None, Ok, Err, Option, Result, sym, refl, ap, ◌∙◌, subst, arith, drop_of_length-le}
+use Rattle.std.proofs.Common.{◌≡◌, ℕ, ◌+◌, ◌<◌, ◌≤◌, Bool, true, false, ◌&&◌, List, [], ◌∷◌, length, get_or, drop, Some, None, Ok, Err, Result, sym, refl, ap, ◌∙◌, subst, arith, drop_of_length-le}
 use Rattle.std.specs.List.{slice_get}
 use Rattle.std.proofs.lemmas.Bool.Decides.{nat_tests}
 use Rattle.orders.specs.Refusal.{Told, told, refused, reply}
@@ -7,10 +7,10 @@ use Rattle.journal.specs.declared.entry.Entry.{Entry}
 use Rattle.journal.specs.declared.entry.Entry.TheVariants.{Arrival, Taking}
 use Rattle.journal.specs.declared.folder.Folder.{Folder}
 use Rattle.journal.specs.declared.refusal.ListRefusal.{ListRefusal}
-use Rattle.journal.specs.Folders.{in_order, placed, front, rest, ahead_of_all}
-use Rattle.journal.specs.Racks.{holds, taken_out, same_key, put_rule, remove_rule}
+use Rattle.journal.specs.Folders.{in_order, placed, rest}
+use Rattle.journal.specs.Racks.{holds, put_rule, remove_rule}
 use Rattle.journal.specs.Refusals.{accepted, later, list_refusal}
-use Rattle.journal.specs.Replay.{stamp_of, by_stamp, rack_after, replay, fetches, first_empty, waiting, first_unserved, sound}
+use Rattle.journal.specs.Replay.{stamp_of, by_stamp, rack_after, replay, fetches, first_empty, waiting, first_unserved}
 use Rattle.journal.proofs.Ahead.{Lawful}
 use Rattle.journal.proofs.Placed.{length_placed, placed_ordered}
 use Rattle.slips.specs.Into.{before_stamp, Ready, Steps, replay_reply, replayed}

@@ -12,9 +12,9 @@ use orders::priority::Priority;
 
 // Does what one entry does to the rack.
 fn step<P: Priority, R: Rack<P>>(rack: &mut R, entry: &Entry<P>) -> Result<(), Refusal>
-    requires { Ready P.Priority.not_behind (R.capacity rack.old) (folders rack.old) entry.now }
-    ensures same { capacity rack.new ≡ capacity rack.old }
-    ensures steps { Steps P.Priority.not_behind (folders rack.old) entry.now (folders rack.new) result }
+    requires { Ready P.Priority.not_behind (R.capacity rack.old) (R.folders rack.old) entry.now }
+    ensures same { R.capacity rack.new ≡ R.capacity rack.old }
+    ensures steps { Steps P.Priority.not_behind (R.folders rack.old) entry.now (R.folders rack.new) result }
 {
     match *entry {
         Entry::Arrival(folder) => {
@@ -35,9 +35,9 @@ pub fn replay_into<P: Priority, R: Rack<P>>(
     list: &EntryList<P>,
     rack: &mut R,
 ) -> Result<(), Refusal>
-    ensures same { capacity rack.new ≡ capacity rack.old }
+    ensures same { R.capacity rack.new ≡ R.capacity rack.old }
     ensures replied { reply book_refusal result ≡ replay_reply P.Priority.not_behind (R.capacity rack.old) list.now.items.items }
-    ensures left { folders rack.new ≡ replayed P.Priority.not_behind (R.capacity rack.old) list.now.items.items (folders rack.old) }
+    ensures left { R.folders rack.new ≡ replayed P.Priority.not_behind (R.capacity rack.old) list.now.items.items (R.folders rack.old) }
 {
     let entries = list.entries();
     if rack.capacity() < entries.len() {

@@ -1,5 +1,5 @@
-use Rattle.std.proofs.Common.{◌≡◌, [], drop, sym, refl, ap, ◌∙◌, arith, drop_of_length-le}
-use Rattle.journal.specs.Replay.{stamp_of, dated}
+use Rattle.std.proofs.Common.{sym, ap, ◌∙◌, drop_of_length-le}
+use Rattle.journal.specs.Replay.{dated}
 use Rattle.slips.proofs.Dated.{dated_here, dated_on}
 use Rattle.slips.proofs.list.is_dated.Goals as goal
 

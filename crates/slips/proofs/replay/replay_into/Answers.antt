@@ -1,8 +1,7 @@
-use Rattle.std.proofs.Common.{◌≡◌, ◌≤◌, [], ◌∷◌, length, Some, None, Ok, Err, sym, refl, ap, ◌∙◌, subst, arith}
-use Rattle.orders.specs.Refusal.{told, refused}
+use Rattle.std.proofs.Common.{◌≤◌, length, sym, refl, ap, ◌∙◌, subst, arith}
+use Rattle.orders.specs.Refusal.{refused}
 use Rattle.journal.specs.Refusals.{book_refusal}
-use Rattle.journal.specs.Replay.{stamp_of, first_unserved}
-use Rattle.journal.proofs.Ahead.{Lawful}
+use Rattle.journal.specs.Replay.{stamp_of}
 use Rattle.slips.specs.Into.{replay_reply, replayed}
 use Rattle.slips.proofs.Going.{Going, going_start, going_ready, going_on, going_stop, going_end, stopped, finished}
 use Rattle.slips.proofs.replay.replay_into.Goals as goal
@@ -35,7 +34,7 @@ loop-slip-init g c =
 
 pub loop-slip-preserved : goal.loop-slip-preserved
 loop-slip-preserved g c =
-    let steps = c.in-default.ensures.steps in (
+    let steps = c.in_default.ensures.steps in (
       going_on g.P.Priority.not_behind (record { total = g.met.P.Priority.total; transitive = g.met.P.Priority.transitive }) c.entries-entries.result.now (g.R.Rack.folders c.loop-slip.rack) (g.R.Rack.folders c.step.new.rack)
           c.loop-slip.slip-index c.slip-item.result c.loop-slip.invariant.0 c.loop-slip-test.true c.slip-item.is steps.0 steps.1,
       c.step.ensures.same ∙ c.loop-slip.invariant.1,

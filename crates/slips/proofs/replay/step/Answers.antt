@@ -1,48 +1,46 @@
-use Rattle.std.proofs.Common.{◌≡◌, [], ◌∷◌, Some, None, Ok, Err, sym, refl, ap, ◌∙◌, subst, arith}
-use Rattle.journal.specs.declared.entry.Entry.TheVariants.{Arrival, Taking}
+use Rattle.std.proofs.Common.{[], ◌∷◌, Some, Ok, sym, refl, ap, ◌∙◌, subst}
 use Rattle.journal.specs.declared.refusal.Refusal.TheVariants.{NoFolder}
 use Rattle.journal.specs.Folders.{placed, rest}
 use Rattle.journal.specs.Racks.{put_rule, remove_rule}
 use Rattle.journal.specs.Replay.{stamp_of, fetches, first_empty}
-use Rattle.journal.proofs.Ahead.{Lawful}
 use Rattle.slips.specs.Into.{Ready, Steps}
 use Rattle.slips.proofs.Going.{not_refused, ready_put, taking_rule, arrival_steps, taking_steps, unserved}
 use Rattle.slips.proofs.replay.step.Goals as goal
 
-pub returns-in-err-put : goal.returns-in-err-put
-returns-in-err-put g c =
+pub returns-in_err-put-in-Arrival : goal.returns-in_err-put-in-Arrival
+returns-in_err-put-in-Arrival g c =
     let nb = g.P.Priority.not_behind in
     let fs = g.R.Rack.folders c.args.rack.now in
     let room = g.R.Rack.capacity c.args.rack.now in
-    absurd (not_refused (put_rule nb room fs c.in-Arrival.folder) (placed nb c.in-Arrival.folder fs) c.put.result c.in-err-put.field-0.0
+    absurd (not_refused (put_rule nb room fs c.in-Arrival.folder) (placed nb c.in-Arrival.folder fs) c.put.result c.in_err-put-in-Arrival.field-0.0
     (c.put.ensures.changed.replied c.requires.ordered)
     (ready_put nb room fs c.in-Arrival.folder (subst (Ready nb room fs) c.in-Arrival.is c.requires))
-    c.in-err-put.was)
+    c.in_err-put-in-Arrival.was)
 
-pub returns-in-err-remove : goal.returns-in-err-remove
-returns-in-err-remove g c =
+pub returns-in_err-remove-in-Taking : goal.returns-in_err-remove-in-Taking
+returns-in_err-remove-in-Taking g c =
     let nb = g.P.Priority.not_behind in
     let fs = g.R.Rack.folders c.args.rack.now in
     let f = c.in-Some.front in
-    absurd (not_refused (remove_rule nb fs f.priority f.stamp) (rest fs) c.remove.result c.in-err-remove.field-0.0
+    absurd (not_refused (remove_rule nb fs f.priority f.stamp) (rest fs) c.remove.result c.in_err-remove-in-Taking.field-0.0
     (c.remove.ensures.changed.replied c.requires.ordered)
     (taking_rule nb (record { total = g.met.P.Priority.total; transitive = g.met.P.Priority.transitive }) fs f (sym c.in-Some.ensures))
-    c.in-err-remove.was)
+    c.in_err-remove-in-Taking.was)
 
-pub returns-in-default : goal.returns-in-default
-returns-in-default g c =
+pub returns-in_default : goal.returns-in_default
+returns-in_default g c =
     let nb = g.P.Priority.not_behind in
     let fs = g.R.Rack.folders c.args.rack.now in
     record {
       same = refl;
       steps = (
         ap (λ e. NoFolder (stamp_of e)) (sym c.in-Taking.is),
-        ap (λ e. first_empty (fetches nb fs (e ∷ []))) c.in-Taking.is ∙ unserved nb fs c.in-Taking.stamp (sym c.in-default.ensures) ∙ ap (λ e. Some (stamp_of e)) (sym c.in-Taking.is),
+        ap (λ e. first_empty (fetches nb fs (e ∷ []))) c.in-Taking.is ∙ unserved nb fs c.in-Taking.stamp (sym c.in_default.ensures) ∙ ap (λ e. Some (stamp_of e)) (sym c.in-Taking.is),
       );
     }
 
-pub returns-in-ok-put : goal.returns-in-ok-put
-returns-in-ok-put g c =
+pub returns-in_ok-put-in-Arrival : goal.returns-in_ok-put-in-Arrival
+returns-in_ok-put-in-Arrival g c =
     let nb = g.P.Priority.not_behind in
     let fs = g.R.Rack.folders c.args.rack.now in
     let room = g.R.Rack.capacity c.args.rack.now in
@@ -53,8 +51,8 @@ returns-in-ok-put g c =
           (arrival_steps nb room fs c.in-Arrival.folder after (subst (Ready nb room fs) c.in-Arrival.is c.requires) (c.put.ensures.changed.followed c.requires.ordered));
     }
 
-pub returns-in-ok-remove : goal.returns-in-ok-remove
-returns-in-ok-remove g c =
+pub returns-in_ok-remove-in-Taking : goal.returns-in_ok-remove-in-Taking
+returns-in_ok-remove-in-Taking g c =
     let nb = g.P.Priority.not_behind in
     let fs = g.R.Rack.folders c.args.rack.now in
     let after = g.R.Rack.folders c.remove.new.self in

@@ -1,8 +1,8 @@
-use Rattle.std.proofs.Common.{◌≡◌, ◌+◌, ◌<◌, ◌≤◌, take, sym, ap, ◌∙◌, arith}
+use Rattle.std.proofs.Common.{◌≡◌, take, sym, ap, ◌∙◌, arith}
 use Rattle.orders.specs.Weight.{decoded}
 use Rattle.std.proofs.lemmas.List.Sums.{sum_by_more}
-use Rattle.slips.specs.Plan.{bytes_of, LongestFront}
-use Rattle.slips.proofs.Fronts.{front_mono, too_long}
+use Rattle.slips.specs.Plan.{bytes_of}
+use Rattle.slips.proofs.Fronts.{too_long}
 use Rattle.slips.proofs.run.plan.Goals as goal
 
 pub returns-then-bytes-cap : goal.returns-then-bytes-cap
