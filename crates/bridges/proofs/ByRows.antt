@@ -1,7 +1,7 @@
 -- A book's replies by its rows are the defined ones.
 use Rattle.std.proofs.Common.{◌≡◌, ℕ, suc, Bool, true, false, cond, eqb, List, [], ◌∷◌, map, length, Some, None, Option, sym, refl, ap, subst, subst₂, inl, inr, arith}
 use Rattle.std.specs.List.{slice_get}
-use Rattle.std.proofs.lemmas.Bool.{eq-eqb, ne_eqb, cond_true, cond-false}
+use Rattle.std.proofs.lemmas.Bool.{eq-eqb, ne_eqb, cond-true, cond-false}
 use Rattle.orders.specs.Refusal.{Told, told, refused}
 use Rattle.journal.specs.declared.folder.Folder.{Folder}
 use Rattle.journal.specs.declared.entry.Entry.{Entry}
@@ -12,7 +12,6 @@ use Rattle.journal.specs.declared.row.Mark.{Mark}
 use Rattle.journal.specs.declared.row.Mark.TheVariants.{Waiting, Fetched}
 use Rattle.journal.specs.declared.call.Call.{Call}
 use Rattle.journal.specs.declared.call.Call.TheVariants as call
-use Rattle.journal.specs.declared.call.Standing.{Standing}
 use Rattle.journal.specs.declared.call.Standing.TheVariants as standing
 use Rattle.journal.specs.Folders.{has_stamp}
 use Rattle.journal.specs.Replay.{stamp_of, waiting, dated, entered, struck, first_unserved}
@@ -178,7 +177,7 @@ module _ {P : Type 0} (nb : P → P → Bool) (canonical : P → P) (L : Lawful 
       by_row (Arrival f j) m q = go j (mark_of_row (waiting nb (entries rs)) (entries rs) f j (subst (λ l. Among (Arrival f j) l) k.marks m))
         where
           go : (j : Mark) → j ≡ cond (has_stamp f.stamp (waiting nb (entries rs))) Waiting Fetched → standing_by (Some (Arrival f j)) ≡ cond (has_stamp s (waiting nb (entries rs))) standing.Waiting standing.Fetched
-          go Waiting e = sym (cond_true _ _ _ (rw q at (waiting_mark _ e)))
+          go Waiting e = sym (cond-true _ _ _ (rw q at (waiting_mark _ e)))
           go Fetched e = sym (cond-false _ _ _ (rw q at (fetched_mark _ e)))
       by_row (Taking t) m q = refl
 

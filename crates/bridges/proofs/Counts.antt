@@ -1,6 +1,6 @@
 -- Counting: what arrives stays on the rack or is fetched, and no two folders of a journal share a stamp.
 use Rattle.std.proofs.Common.{◌≡◌, ℕ, suc, ◌+◌, ◌<◌, ◌≤◌, Bool, true, false, cond, ◌||◌, eqb, ltb, List, [], ◌∷◌, length, sym, refl, ap, ◌∙◌, arith}
-use Rattle.std.proofs.lemmas.Bool.{true≢false, ne_eqb, eqb-true, eq-eqb, lt-ltb, or_parts, or_from, or_left, or_right, and_right, cond_true, cond-false}
+use Rattle.std.proofs.lemmas.Bool.{true≢false, ne_eqb, eqb-true, eq-eqb, lt-ltb, or_parts, or_from, or_left, or_right, and_right, cond-true, cond-false}
 use Rattle.journal.specs.declared.folder.Folder.{Folder}
 use Rattle.journal.specs.declared.entry.Entry.{Entry}
 use Rattle.journal.specs.declared.entry.Entry.TheVariants.{Arrival, Taking}
@@ -94,20 +94,20 @@ module _ {P : Type 0} (nb : P → P → Bool) (L : Lawful nb) where
       go false ih = or_right _ _ ih
 
   taken_out_placed : (m : Folder P) (fs : List (Folder P)) → has_stamp m.stamp fs ≡ false → taken_out nb m.priority m.stamp (placed nb m fs) ≡ fs
-  taken_out_placed m [] h = cond_true _ _ _ (own_key m)
+  taken_out_placed m [] h = cond-true _ _ _ (own_key m)
   taken_out_placed m (g ∷ gs) h =
       let parts = or_parts (eqb m.stamp g.stamp) (has_stamp m.stamp gs) h in
       go (ahead nb m g) (and_right (tie nb m.priority g.priority) _ parts.0) (taken_out_placed m gs parts.1)
     where
       go : (b : Bool) → same_key nb m.priority m.stamp g ≡ false → taken_out nb m.priority m.stamp (placed nb m gs) ≡ gs
           → taken_out nb m.priority m.stamp (cond b (m ∷ g ∷ gs) (g ∷ placed nb m gs)) ≡ g ∷ gs
-      go true k ih = cond_true _ _ _ (own_key m)
+      go true k ih = cond-true _ _ _ (own_key m)
       go false k ih = cond-false (same_key nb m.priority m.stamp g) _ _ k ∙ ap (λ l. g ∷ l) ih
 
   pub rack_follows : RackFollows nb
   rack_follows m fewer more a = (
-    cond_true _ _ _ (ap (holds nb m.priority m.stamp) a.joined ∙ holds_placed m fewer) ∙ ap told (sym a.left),
-    λ capacity lt. cond-false (holds nb m.priority m.stamp fewer) _ _ (holds_none m fewer a.new) ∙ cond_true (ltb (length fewer) capacity) _ _ (lt-ltb _ _ lt) ∙ ap told (sym a.joined),
+    cond-true _ _ _ (ap (holds nb m.priority m.stamp) a.joined ∙ holds_placed m fewer) ∙ ap told (sym a.left),
+    λ capacity lt. cond-false (holds nb m.priority m.stamp fewer) _ _ (holds_none m fewer a.new) ∙ cond-true (ltb (length fewer) capacity) _ _ (lt-ltb _ _ lt) ∙ ap told (sym a.joined),
   )
 
   -- a waiting list with one folder set in place differs by that one

@@ -1,5 +1,5 @@
 -- Each bridge rule finds the mover of the replay.
-use Rattle.std.proofs.Common.{◌≡◌, ℕ, suc, ◌-◌, ◌≤◌, Bool, true, false, List, [], ◌∷◌, ◌++◌, length, drop, Some, sym, refl, ap, ◌∙◌, subst, ap₂, inl, inr, arith, length_append}
+use Rattle.std.proofs.Common.{◌≡◌, ℕ, suc, ◌-◌, ◌≤◌, Bool, true, false, List, [], ◌∷◌, ◌++◌, length, drop, Some, sym, refl, ap, ◌∙◌, subst, ap₂, inl, inr, arith, length-append}
 use Rattle.std.proofs.lemmas.Bool.{both_ways, and_parts}
 use Rattle.journal.specs.declared.folder.Folder.{Folder}
 use Rattle.journal.specs.declared.entry.Entry.{Entry}
@@ -109,7 +109,7 @@ module _ {P : Type 0} (nb : P → P → Bool) (L : Lawful nb) where
       let on = stands_after nb L (suc f.stamp) xs ys c.rising_before (older_later f.stamp xs c.older) c.rising_after in
       let served = (served_parts nb xs ys [] (served_sound _ (rw c.lacking_is at h))).1 in
       ap (λ q. foremost_before_bridge nb (marked nb es) (suc q)) place
-      ∙ before_place (suc (length xs)) es lacking (replay nb [] xs) r v (omega (arith, ap length c.having_is, length_append xs (Arrival f ∷ ys)))
+      ∙ before_place (suc (length xs)) es lacking (replay nb [] xs) r v (omega (arith, ap length c.having_is, length-append xs (Arrival f ∷ ys)))
       (record {
         lacking = f;
         more = here;

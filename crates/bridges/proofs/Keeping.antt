@@ -9,7 +9,7 @@ use Rattle.journal.specs.declared.call.Call.TheVariants as call
 use Rattle.journal.specs.Folders.{placed}
 use Rattle.journal.specs.Replay.{stamp_of, replay, waiting, entered, struck}
 use Rattle.journal.specs.Refusals.{later}
-use Rattle.journal.specs.Calls.{joined, as_meant, correction, later_journal}
+use Rattle.journal.specs.Calls.{as_meant, correction, later_journal}
 use Rattle.bridges.specs.Law.{Asked, journal_after, MovesAs}
 use Rattle.bridges.specs.Keeping.{Fit, AllFit, Keeps}
 use Rattle.journal.proofs.Ahead.{Lawful}

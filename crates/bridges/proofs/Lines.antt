@@ -2,7 +2,7 @@
 use Rattle.std.proofs.Common.{◌≡◌, ℕ, zero, suc, ◌+◌, ◌<◌, cond, ltb, List, [], ◌∷◌, length, Some, sym, refl, ap, ◌∙◌, arith}
 use lib.ListN.{length-map}
 use Rattle.std.specs.List.{slice_get}
-use Rattle.std.proofs.lemmas.Bool.{cond_true, cond-false, lt-ltb}
+use Rattle.std.proofs.lemmas.Bool.{cond-true, cond-false, lt-ltb}
 use Rattle.journal.specs.declared.row.Row.{Row}
 use Rattle.journal.specs.declared.row.Row.TheVariants.{Arrival, Taking}
 use Rattle.journal.specs.declared.row.Mark.{Mark}
@@ -44,11 +44,11 @@ module _ {P : Type 0} where
 
 pub line_follows : (P : Type 0) → LineFollows P
 line_follows P = record {
-  put = λ capacity rs r d lt. cond-false (dated (stamp_of (entry_of r)) (entries rs)) _ _ d ∙ cond_true (ltb (length rs) capacity) _ _ (lt-ltb _ _ lt);
-  mark = λ rs k f old new e. cond_true (is_arrival (slice_get rs k)) _ _ (ap is_arrival e);
+  put = λ capacity rs r d lt. cond-false (dated (stamp_of (entry_of r)) (entries rs)) _ _ d ∙ cond-true (ltb (length rs) capacity) _ _ (lt-ltb _ _ lt);
+  mark = λ rs k f old new e. cond-true (is_arrival (slice_get rs k)) _ _ (ap is_arrival e);
   mark_same = same_journal;
   remove = λ rs s b d.
       let got = dated_row s rs d in
       let at = row_at_place 0 rs got.0 (rising_journal (entries rs) b) got.1 in
-      cond_true (ltb (earlier rs s) (length rs)) _ _ (lt-ltb _ _ (rw got.2 at (at_within (earlier rs (stamp_of (entry_of got.0))) got.0 rs at)));
+      cond-true (ltb (earlier rs s) (length rs)) _ _ (lt-ltb _ _ (rw got.2 at (at_within (earlier rs (stamp_of (entry_of got.0))) got.0 rs at)));
 }

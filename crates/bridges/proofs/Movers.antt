@@ -34,7 +34,7 @@ module _ {P : Type 0} (nb : P → P → Bool) (L : Lawful nb) where
       go [] at st v = absurd (never_served s v)
       go (z ∷ rack) at st v =
           let m = hindmost_of nb z (gone nb rack ys) in
-          let from : folders_of (Rattle.journal.specs.Replay.fetches-from s (Rattle.journal.specs.Replay.fetches nb [] (xs ++ Taking s ∷ ys))) ≡ z ∷ gone nb rack ys
+          let from : folders_of (Rattle.journal.specs.Replay.fetches_from s (Rattle.journal.specs.Replay.fetches nb [] (xs ++ Taking s ∷ ys))) ≡ z ∷ gone nb rack ys
           = ap folders_of (fetches_from_append nb s xs (Taking s ∷ ys) [] o (omega arith, k)) ∙ ap (λ q. gone nb q (Taking s ∷ ys)) at in
           let having : waiting nb (xs ++ Taking s ∷ ys) ≡ replay nb rack ys = replay_append nb xs (Taking s ∷ ys) [] ∙ ap (λ q. replay nb q (Taking s ∷ ys)) at in
           let lacking : waiting nb (xs ++ ys) ≡ replay nb (z ∷ rack) ys = replay_append nb xs ys [] ∙ ap (λ q. replay nb q ys) at in

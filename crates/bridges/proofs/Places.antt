@@ -1,5 +1,5 @@
 -- The rack at a place of a journal, and the step from a place to the next.
-use Rattle.std.proofs.Common.{◌≡◌, ℕ, zero, suc, ◌<◌, ◌≤◌, Bool, List, [], ◌∷◌, ◌++◌, length, take, drop, sym, refl, ap, ◌∙◌, arith, length_append, take-append-drop}
+use Rattle.std.proofs.Common.{◌≡◌, ℕ, zero, suc, ◌<◌, ◌≤◌, Bool, List, [], ◌∷◌, ◌++◌, length, take, drop, sym, refl, ap, ◌∙◌, arith, length-append, take-append-drop}
 use lib.Seq.{take-append_seam, drop-append_seam}
 use Rattle.journal.specs.declared.folder.Folder.{Folder}
 use Rattle.journal.specs.declared.entry.Entry.{Entry}
@@ -19,10 +19,10 @@ module _ {P : Type 0} where
   drop_seam es xs ys e = ap (drop (length xs)) e ∙ drop-append_seam xs ys
 
   pub length_seam : (es xs ys : List (Entry P)) → es ≡ xs ++ ys → length xs ≤ length es
-  length_seam es xs ys e = omega (arith, ap length e, length_append xs ys)
+  length_seam es xs ys e = omega (arith, ap length e, length-append xs ys)
 
   length_next : (xs : List (Entry P)) (a : Entry P) → length (xs ++ a ∷ []) ≡ suc (length xs)
-  length_next xs a = let n = length_append xs (a ∷ []) in omega arith
+  length_next xs a = let n = length-append xs (a ∷ []) in omega arith
 
   next_seam : (es xs ys : List (Entry P)) (a : Entry P) → es ≡ xs ++ a ∷ ys → es ≡ (xs ++ a ∷ []) ++ ys
   next_seam es [] ys a e = e

@@ -1,6 +1,6 @@
 -- Racks in order, and what an entry makes of them.
 use Rattle.std.proofs.Common.{◌≡◌, ℕ, suc, ◌<◌, ◌≤◌, Bool, true, false, cond, List, [], ◌∷◌, refl, arith}
-use Rattle.std.proofs.lemmas.Bool.{and_parts, and_from, cond_true}
+use Rattle.std.proofs.lemmas.Bool.{and_parts, and_from, cond-true}
 use Rattle.journal.specs.declared.folder.Folder.{Folder}
 use Rattle.journal.specs.declared.entry.Entry.{Entry}
 use Rattle.journal.specs.declared.entry.Entry.TheVariants.{Arrival, Taking}
@@ -30,7 +30,7 @@ module _ {P : Type 0} (nb : P → P → Bool) where
   -- who is ahead of all is set before them
   pub placed_front : (f : Folder P) (fs : List (Folder P)) → ahead_of_all nb f fs ≡ true → placed nb f fs ≡ f ∷ fs
   placed_front f [] h = refl
-  placed_front f (g ∷ gs) h = cond_true (ahead nb f g) _ _ (and_parts (ahead nb f g) (ahead_of_all nb f gs) h).0
+  placed_front f (g ∷ gs) h = cond-true (ahead nb f g) _ _ (and_parts (ahead nb f g) (ahead_of_all nb f gs) h).0
 
 module _ {P : Type 0} (nb : P → P → Bool) (L : Lawful nb) where
   -- two folders of different stamps can be set in place in either order

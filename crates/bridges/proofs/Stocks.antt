@@ -1,5 +1,5 @@
 -- Soundness by stock: a run with one folder fewer finds the rack empty just before the first low stock.
-use Rattle.std.proofs.Common.{◌≡◌, ℕ, zero, suc, ◌+◌, ◌-◌, ◌<◌, ◌≤◌, Bool, true, false, cond, eqb, ltb, List, [], ◌∷◌, ◌++◌, length, drop, Some, None, Option, sym, refl, ap, ◌∙◌, arith, length_append}
+use Rattle.std.proofs.Common.{◌≡◌, ℕ, zero, suc, ◌+◌, ◌-◌, ◌<◌, ◌≤◌, Bool, true, false, cond, eqb, ltb, List, [], ◌∷◌, ◌++◌, length, drop, Some, None, Option, sym, refl, ap, ◌∙◌, arith, length-append}
 use lib.ListN.{length-map}
 use Rattle.std.specs.Option.{option_map}
 use Rattle.std.specs.List.{slice_get}
@@ -183,7 +183,7 @@ module _ {P : Type 0} (nb : P → P → Bool) where
       place = earlier_parts s xs ys rs e o (rising_earlier s (suc s) ys (omega arith) r)
 
       size : length rs ≡ length xs + length ys
-      size = sym (length-map rs entry_of) ∙ ap length e ∙ length_append xs ys
+      size = sym (length-map rs entry_of) ∙ ap length e ∙ length-append xs ys
 
       served_front : Served nb [] xs
       served_front = (served_parts nb xs ys [] (rw e at v)).0
@@ -218,7 +218,7 @@ module _ {P : Type 0} (nb : P → P → Bool) where
       place = earlier_parts f.stamp xs (Arrival f ∷ ys) rs e o (omega arith, r)
 
       size : length rs ≡ length xs + suc (length ys)
-      size = sym (length-map rs entry_of) ∙ ap length e ∙ length_append xs (Arrival f ∷ ys)
+      size = sym (length-map rs entry_of) ∙ ap length e ∙ length-append xs (Arrival f ∷ ys)
 
       served_front : Served nb [] xs
       served_front = (served_parts nb xs (Arrival f ∷ ys) [] (rw e at v)).0

@@ -1,6 +1,6 @@
 -- The rank of a key among folders in order is the place where its folder goes, or stands.
-use Rattle.std.proofs.Common.{◌≡◌, ℕ, suc, ◌+◌, ◌<◌, ◌≤◌, Bool, true, false, cond, not, ◌&&◌, ◌||◌, eqb, ltb, List, [], ◌∷◌, ◌++◌, length, take, drop, count_by, sym, refl, ap, ◌∙◌, add-one, arith}
-use Rattle.std.specs.List.{prefix_len, insert, remove}
+use Rattle.std.proofs.Common.{◌≡◌, ℕ, ◌+◌, ◌<◌, ◌≤◌, Bool, true, false, cond, not, List, [], ◌∷◌, ◌++◌, length, take, drop, sym, refl, ap, ◌∙◌, add-one, arith}
+use Rattle.std.specs.List.{insert, remove}
 use Rattle.std.proofs.lemmas.List.Sums.{sum_by-cons, count_by-le-length}
 use Rattle.std.proofs.lemmas.Bool.Decides.{nat_tests}
 use Rattle.journal.specs.declared.folder.Folder.{Folder}
@@ -46,8 +46,8 @@ module _ {P : Type 0} (nb : P → P → Bool) (L : Lawful nb) (p : P) (s : ℕ) 
   key_rank (g ∷ gs) o h =
       let ih = key_rank gs in
       let alike = alike_not_ahead g in
-      let Ahead-none = none_ahead g gs in
-      let alike-none = none_alike g gs in
+      let ahead_none = none_ahead g gs in
+      let alike_none = none_alike g gs in
       grind arith ∙ sym (rank_cons nb p s g gs)
 
   pub rank_inside : (fs : List (Folder P)) → in_order nb fs ≡ true → holds nb p s fs ≡ true → rank nb p s fs < length fs
@@ -71,7 +71,7 @@ module _ {P : Type 0} (nb : P → P → Bool) (L : Lawful nb) (f : Folder P) whe
   place_rank (g ∷ gs) o h =
       let ih = place_rank gs in
       let either = ahead_either g in
-      let Ahead-none = none_ahead nb L f.priority f.stamp g gs in
+      let ahead_none = none_ahead nb L f.priority f.stamp g gs in
       grind arith ∙ sym (rank_cons nb f.priority f.stamp g gs)
 
   -- a folder whose like is not there goes where the rank says

@@ -1,5 +1,5 @@
 -- What a rack over a list by place has done, in each case of what a search for the key told.
-use Rattle.std.proofs.Common.{◌≡◌, ℕ, zero, suc, ◌+◌, ◌-◌, ◌<◌, ◌≤◌, Bool, true, false, cond, ltb, List, [], ◌∷◌, ◌++◌, map, length, take, drop, sym, refl, ap, ◌∙◌, arith, length_append, length-drop, length-take}
+use Rattle.std.proofs.Common.{◌≡◌, ℕ, zero, suc, ◌<◌, ◌≤◌, Bool, true, false, List, [], ◌∷◌, length, sym, refl, ap, ◌∙◌, arith, length-append, length-drop, length-take}
 use Rattle.std.specs.List.{insert, remove}
 use Rattle.std.proofs.lemmas.Bool.Decides.{nat_tests}
 use Rattle.orders.specs.Refusal.{Told, told, refused}
@@ -58,7 +58,7 @@ module _ {P : Type 0} (nb : P → P → Bool) (L : Lawful nb) (fs : List (Folder
 
     pub put_done : length fs < capacity → Finds nb f.priority f.stamp fs (place, false) → Changed nb capacity (put_rule nb capacity fs f) fs (insert fs place f) (told tt)
     put_done room found =
-        accepts nb capacity (put_rule nb capacity fs f) fs (insert fs place f) (simp (length_append, length-take, length-drop) (omega arith))
+        accepts nb capacity (put_rule nb capacity fs f) fs (insert fs place f) (simp (length-append, length-take, length-drop) (omega arith))
         (λ o.
         let at : place ≡ rank nb f.priority f.stamp fs = ap (λ r. r.0) (found o) in
         let h : holds nb f.priority f.stamp fs ≡ false = sym (ap (λ r. r.1) (found o)) in
@@ -72,7 +72,7 @@ module _ {P : Type 0} (nb : P → P → Bool) (L : Lawful nb) (fs : List (Folder
 
     pub remove_done : Finds nb p s fs (place, true) → Changed nb capacity (remove_rule nb fs p s) fs (remove fs place) (told tt)
     remove_done found =
-        accepts nb capacity (remove_rule nb fs p s) fs (remove fs place) (simp (length_append, length-take, length-drop) (omega arith))
+        accepts nb capacity (remove_rule nb fs p s) fs (remove fs place) (simp (length-append, length-take, length-drop) (omega arith))
         (λ o.
         let at : place ≡ rank nb p s fs = ap (λ r. r.0) (found o) in
         let h : holds nb p s fs ≡ true = sym (ap (λ r. r.1) (found o)) in

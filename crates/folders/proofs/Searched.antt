@@ -1,11 +1,11 @@
 -- A search for a key among folders in order: the last folder of a part tells whether it has a hit, and the first hit stands at the rank.
-use Rattle.std.proofs.Common.{◌≡◌, ℕ, suc, ◌+◌, Bool, true, false, cond, not, ◌&&◌, ◌||◌, List, [], ◌∷◌, ◌++◌, length, Some, None, Option, sym, refl, ap, ◌∙◌, zero-add, one-add, arith}
+use Rattle.std.proofs.Common.{◌≡◌, ℕ, suc, ◌+◌, Bool, true, false, cond, not, ◌||◌, List, [], ◌∷◌, ◌++◌, length, Some, None, Option, sym, refl, ap, ◌∙◌, zero-add, one-add, arith}
 use Rattle.std.specs.List.{slice_get}
 use Rattle.std.proofs.lemmas.List.{map-append}
 use Rattle.std.proofs.lemmas.Option.{slice_get_past}
 use Rattle.journal.specs.declared.folder.Folder.{Folder}
-use Rattle.journal.specs.Folders.{ahead, ahead_of_all, in_order}
-use Rattle.journal.specs.Racks.{same_key, holds}
+use Rattle.journal.specs.Folders.{ahead_of_all, in_order}
+use Rattle.journal.specs.Racks.{holds}
 use Rattle.journal.proofs.Ahead.{Lawful as Order, ahead_transitive}
 use Rattle.nodes.specs.Tree.{Tree, leaf, branch, items, size, summary}
 use Rattle.nodes.specs.Hits.{passed, any_hit, first_in, Lawful}

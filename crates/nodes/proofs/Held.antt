@@ -1,5 +1,5 @@
 -- What is known of a tree that a slice holds.
-use Rattle.std.proofs.Common.{◌≡◌, ℕ, zero, suc, ◌+◌, ◌<◌, ◌≤◌, Bool, true, false, List, [], ◌∷◌, ◌++◌, length, Some, None, Option, sym, refl, ap, ◌∙◌, subst, arith, length_append}
+use Rattle.std.proofs.Common.{◌≡◌, ℕ, zero, suc, ◌+◌, ◌<◌, ◌≤◌, Bool, true, false, List, ◌∷◌, length, Some, None, Option, sym, refl, ap, ◌∙◌, subst, arith, length-append}
 use Rattle.nodes.specs.declared.node.Node.{Node}
 use Rattle.nodes.specs.Tree.{Tree, leaf, branch, items, size, height, summary, before_of}
 use Rattle.std.specs.List.{slice_get}
@@ -11,7 +11,7 @@ size_is_length leaf = refl
 size_is_length (branch slot item before after) =
     let b = size_is_length before in
     let a = size_is_length after in
-    length_append (items before) (item ∷ items after) ∙ omega arith
+    length-append (items before) (item ∷ items after) ∙ omega arith
 
 -- the parts of a tree whose root node was read
 pub record Opened {E S : Type 0} (must : Bool) (empty : S) (whole : S → E → S → S) (nodes : List (Node E S)) (slot : ℕ) (node : Node E S) (t : Tree E) : Type 0 where

@@ -1,14 +1,13 @@
 -- What a search finds from a marked node on, and up to it.
-use Rattle.std.proofs.Common.{◌≡◌, ℕ, zero, suc, ◌+◌, ◌-◌, ◌^◌, ◌<◌, ◌≤◌, Bool, true, false, cond, ◌||◌, List, [], ◌∷◌, ◌++◌, length, Some, None, Option, sym, refl, ap, ◌∙◌, subst, arith}
+use Rattle.std.proofs.Common.{◌≡◌, ℕ, suc, ◌+◌, ◌^◌, ◌<◌, Bool, true, false, cond, List, [], ◌∷◌, Some, None, Option, sym, ap, ◌∙◌, arith}
 use Rattle.std.specs.Option.{option_or}
 use Rattle.nodes.specs.declared.node.Node.{Node}
-use Rattle.nodes.specs.Tree.{Tree, leaf, branch, items, size, summary, before_of, onward, up_to}
-use Rattle.std.specs.List.{slice_get}
-use Rattle.nodes.specs.Holding.{size_at, Holds, Shaped}
+use Rattle.nodes.specs.Tree.{Tree, items, size, summary, before_of, onward, up_to}
+use Rattle.nodes.specs.Holding.{size_at, Holds}
 use Rattle.nodes.specs.Rules.{Rules}
-use Rattle.nodes.specs.Hits.{passed, any_hit, first_in, last_in, Lawful}
+use Rattle.nodes.specs.Hits.{passed, first_in, last_in}
 use Rattle.nodes.proofs.Held.{Opened, size_is_length, stored_right}
-use Rattle.nodes.proofs.Hunts.{Judged, here_is, later_is, first_here, first_later, last_append}
+use Rattle.nodes.proofs.Hunts.{Judged, here_is, first_here, first_later, last_append}
 
 module _ {E S : Type 0} {must : Bool} {empty : S} {whole : S → E → S → S} {nodes : List (Node E S)} {slot : ℕ} {node : Node E S} {t : Tree E} (o : Opened must empty whole nodes slot node t) (held : Holds must empty whole nodes (Some slot) t) (place n : ℕ) (sized : n ≡ size o.before) (room : place + size_at nodes (Some slot) < 2 ^ 64) where
   pub mark_room : place + n + 1 + size_at nodes node.right < 2 ^ 64

@@ -1,17 +1,17 @@
 -- What a search over the whole tree keeps while it goes down, with the nearest mark behind it.
-use Rattle.std.proofs.Common.{◌≡◌, ℕ, zero, suc, ◌+◌, ◌-◌, ◌^◌, ◌<◌, ◌≤◌, Bool, true, false, cond, ◌||◌, List, [], ◌∷◌, ◌++◌, length, take, drop, Some, None, Option, sym, refl, ap, ◌∙◌, subst, append_assoc, arith, length-drop, take-append-drop, take_all}
+use Rattle.std.proofs.Common.{◌≡◌, ℕ, suc, ◌+◌, ◌-◌, ◌^◌, ◌<◌, ◌≤◌, Bool, true, false, ◌||◌, List, [], ◌∷◌, ◌++◌, length, take, drop, Some, None, Option, sym, refl, ap, ◌∙◌, subst, append_assoc, arith, length-drop, take-append-drop, take_all}
 use Rattle.std.proofs.lemmas.List.{drop_all, nil_from_length, length_push}
 use Rattle.std.specs.Option.{option_or}
 use Rattle.nodes.specs.declared.node.Node.{Node}
 use Rattle.nodes.specs.declared.mark.Mark.{Mark}
-use Rattle.nodes.specs.Tree.{Tree, leaf, branch, items, size, summary, before_of, onward, up_to}
+use Rattle.nodes.specs.Tree.{Tree, items, size, summary, before_of, onward, up_to}
 use Rattle.std.specs.List.{slice_get}
 use Rattle.nodes.specs.Holding.{size_at, Holds, Shaped}
 use Rattle.nodes.specs.Rules.{Rules}
 use Rattle.nodes.specs.Hits.{passed, any_hit, first_in, last_in, Lawful}
 use Rattle.nodes.proofs.Held.{Opened, Inside, Righted, inside_opened, righted, unique, same_tree, size_is_length, stored_right, held_leaf}
 use Rattle.nodes.proofs.Fronts.{front_left, front_right, back_left, back_right}
-use Rattle.nodes.proofs.Hunts.{Judged, judged, here_is, later_is, told_left, told_right, passed_append, first_append, first_some, first_none, last_append, last_some, last_none, any_append, or_none, or_assoc}
+use Rattle.nodes.proofs.Hunts.{Judged, judged, here_is, later_is, told_left, passed_append, first_append, first_some, first_none, last_append, last_some, last_none, any_append, or_none, or_assoc}
 
 or_false : (b : Bool) → (b || false) ≡ b
 or_false true = refl

@@ -1,5 +1,5 @@
 -- The first and the last hit of a probe in a list, and when a probe is lawful.
-use Rattle.std.specs.Prelude.{◌≡◌, ℕ, suc, Bool, true, false, cond, ◌||◌, List, [], ◌∷◌, ◌++◌, Some, None, Option}
+use Rattle.std.specs.Prelude.{◌≡◌, ℕ, suc, Bool, false, cond, ◌||◌, List, [], ◌∷◌, ◌++◌, Some, None, Option}
 use Rattle.std.specs.Option.{option_or}
 use Rattle.nodes.specs.Tree.{Tree, items, summary}
 use Rattle.nodes.specs.Rules.{Rules}

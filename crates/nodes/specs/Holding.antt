@@ -1,6 +1,6 @@
 -- When a slice of nodes holds a tree.
 use Rattle.std.specs.List.{slice_get}
-use Rattle.std.specs.Prelude.{◌≡◌, ℕ, zero, suc, ◌+◌, Bool, true, false, List, [], ◌∷◌, Some, None, Option}
+use Rattle.std.specs.Prelude.{◌≡◌, ℕ, zero, suc, ◌+◌, Bool, true, false, List, Some, None, Option}
 use Rattle.nodes.specs.declared.node.Node.{Node}
 use Rattle.nodes.specs.Tree.{Tree, leaf, branch, size, summary}
 

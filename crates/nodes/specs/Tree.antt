@@ -1,5 +1,5 @@
 -- Binary trees that name the slot of each item.
-use Rattle.std.specs.Prelude.{ℕ, suc, ◌+◌, max, Bool, cond, List, [], ◌∷◌, ◌++◌, ◌==◌}
+use Rattle.std.specs.Prelude.{ℕ, suc, ◌+◌, max, cond, List, [], ◌∷◌, ◌++◌, ◌==◌}
 
 pub data Tree (E : Type 0) : Type 0 where
   leaf : Tree E

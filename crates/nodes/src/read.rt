@@ -16,8 +16,8 @@ pub fn read_at<T: Copy>(slice: &[T], i: usize) -> T
 
 // How many nodes hang from a link.
 pub fn size_of<E: Element>(nodes: &[Node<E, E::Sum>], link: Option<usize>) -> usize
-    requires { Shaped empty whole nodes.now link }
-    ensures { (t : Tree E) → Holds false empty whole nodes.now link t → result ≡ size t }
+    requires { Shaped E.empty E.whole nodes.now link }
+    ensures { (t : Tree E) → Holds false E.empty E.whole nodes.now link t → result ≡ size t }
 {
     match link {
         None => 0,
@@ -27,8 +27,8 @@ pub fn size_of<E: Element>(nodes: &[Node<E, E::Sum>], link: Option<usize>) -> us
 
 // The summary of the items that hang from a link.
 pub fn sum_of<E: Element>(nodes: &[Node<E, E::Sum>], link: Option<usize>) -> E::Sum
-    requires { Shaped empty whole nodes.now link }
-    ensures { (t : Tree E) → Holds true empty whole nodes.now link t → result ≡ summary empty whole t }
+    requires { Shaped E.empty E.whole nodes.now link }
+    ensures { (t : Tree E) → Holds true E.empty E.whole nodes.now link t → result ≡ summary E.empty E.whole t }
 {
     match link {
         None => E::none(),
@@ -42,8 +42,8 @@ pub fn item_at<E: Element>(
     root: Option<usize>,
     place: usize,
 ) -> Option<E>
-    requires { Shaped empty whole nodes.now root }
-    ensures { (t : Tree E) → Holds false empty whole nodes.now root t → result ≡ slice_get (items t) place }
+    requires { Shaped E.empty E.whole nodes.now root }
+    ensures { (t : Tree E) → Holds false E.empty E.whole nodes.now root t → result ≡ slice_get (items t) place }
 {
     let mut link = root;
     let mut rest = place;

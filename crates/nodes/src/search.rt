@@ -17,9 +17,9 @@ fn first_in_part<E: Element, P: Probe<E, E::Sum>>(
     start: P,
     base: usize,
 ) -> Option<usize>
-    requires shape { Shaped empty whole nodes.now root }
+    requires shape { Shaped E.empty E.whole nodes.now root }
     requires room { base + size_at nodes.now root < 2 ^ 64 }
-    ensures { (t : Tree E) → Holds true empty whole nodes.now root t → Lawful empty whole rules start (items t) → result ≡ first_in rules start base (items t) }
+    ensures { (t : Tree E) → Holds true E.empty E.whole nodes.now root t → Lawful E.empty E.whole P.rules start (items t) → result ≡ first_in P.rules start base (items t) }
 {
     let mut link = root;
     let mut probe = start;
@@ -51,9 +51,9 @@ fn last_in_part<E: Element, P: Probe<E, E::Sum>>(
     start: P,
     base: usize,
 ) -> Option<usize>
-    requires shape { Shaped empty whole nodes.now root }
+    requires shape { Shaped E.empty E.whole nodes.now root }
     requires room { base + size_at nodes.now root < 2 ^ 64 }
-    ensures { (t : Tree E) → Holds true empty whole nodes.now root t → Lawful empty whole rules start (items t) → result ≡ last_in rules start base (items t) }
+    ensures { (t : Tree E) → Holds true E.empty E.whole nodes.now root t → Lawful E.empty E.whole P.rules start (items t) → result ≡ last_in P.rules start base (items t) }
 {
     let mut link = root;
     let mut probe = start;
@@ -86,8 +86,8 @@ fn hits_onward<E: Element, P: Probe<E, E::Sum>>(
     node: &Node<E, E::Sum>,
     here: &P,
 ) -> bool
-    requires { Shaped empty whole nodes.now node.now.right }
-    ensures { (t : Tree E) → Holds true empty whole nodes.now node.now.right t → result ≡ (rules.hits here.now node.now.item || rules.reaches (rules.past here.now node.now.item) (summary empty whole t)) }
+    requires { Shaped E.empty E.whole nodes.now node.now.right }
+    ensures { (t : Tree E) → Holds true E.empty E.whole nodes.now node.now.right t → result ≡ (P.rules.hits here.now node.now.item || P.rules.reaches (P.rules.past here.now node.now.item) (summary E.empty E.whole t)) }
 {
     if here.hits_item(&node.item) {
         return true;
@@ -101,9 +101,9 @@ fn first_from_mark<E: Element, P: Probe<E, E::Sum>>(
     nodes: &[Node<E, E::Sum>],
     mark: Mark<P>,
 ) -> Option<usize>
-    requires shape { Shaped empty whole nodes.now (Some mark.slot) }
+    requires shape { Shaped E.empty E.whole nodes.now (Some mark.slot) }
     requires room { mark.place + size_at nodes.now (Some mark.slot) < 2 ^ 64 }
-    ensures { (t : Tree E) → Holds true empty whole nodes.now (Some mark.slot) t → Lawful empty whole rules mark.probe (items t) → result ≡ first_in rules (passed rules mark.probe (items (before_of t))) (mark.place + size (before_of t)) (onward t) }
+    ensures { (t : Tree E) → Holds true E.empty E.whole nodes.now (Some mark.slot) t → Lawful E.empty E.whole P.rules mark.probe (items t) → result ≡ first_in P.rules (passed P.rules mark.probe (items (before_of t))) (mark.place + size (before_of t)) (onward t) }
 {
     let node = read_at(nodes, mark.slot);
     let part = sum_of::<E>(nodes, node.left);
@@ -120,9 +120,9 @@ fn last_to_mark<E: Element, P: Probe<E, E::Sum>>(
     nodes: &[Node<E, E::Sum>],
     mark: Mark<P>,
 ) -> Option<usize>
-    requires shape { Shaped empty whole nodes.now (Some mark.slot) }
+    requires shape { Shaped E.empty E.whole nodes.now (Some mark.slot) }
     requires room { mark.place + size_at nodes.now (Some mark.slot) < 2 ^ 64 }
-    ensures { (t : Tree E) → Holds true empty whole nodes.now (Some mark.slot) t → Lawful empty whole rules mark.probe (items t) → result ≡ last_in rules mark.probe mark.place (up_to t) }
+    ensures { (t : Tree E) → Holds true E.empty E.whole nodes.now (Some mark.slot) t → Lawful E.empty E.whole P.rules mark.probe (items t) → result ≡ last_in P.rules mark.probe mark.place (up_to t) }
 {
     let node = read_at(nodes, mark.slot);
     let part = sum_of::<E>(nodes, node.left);
@@ -141,8 +141,8 @@ pub fn first_hit<E: Element, P: Probe<E, E::Sum>>(
     start: P,
     from: usize,
 ) -> Option<usize>
-    requires { Shaped empty whole nodes.now root }
-    ensures { (t : Tree E) → Holds true empty whole nodes.now root t → Lawful empty whole rules start (items t) → result ≡ first_in rules (passed rules start (take from (items t))) from (drop from (items t)) }
+    requires { Shaped E.empty E.whole nodes.now root }
+    ensures { (t : Tree E) → Holds true E.empty E.whole nodes.now root t → Lawful E.empty E.whole P.rules start (items t) → result ≡ first_in P.rules (passed P.rules start (take from (items t))) from (drop from (items t)) }
 {
     if size_of::<E>(nodes, root) == 0 {
         return None;
@@ -181,7 +181,7 @@ pub fn first_hit<E: Element, P: Probe<E, E::Sum>>(
 
 // Whether the part before an item or the item has a hit; `here` has passed that part.
 fn hits_back<E, S, P: Probe<E, S>>(probe: &P, part: &S, here: &P, item: &E) -> bool
-    ensures { result ≡ (rules.reaches probe.now part.now || rules.hits here.now item.now) }
+    ensures { result ≡ (P.rules.reaches probe.now part.now || P.rules.hits here.now item.now) }
 {
     if probe.hits_part(part) {
         return true;
@@ -196,8 +196,8 @@ pub fn last_hit<E: Element, P: Probe<E, E::Sum>>(
     start: P,
     count: usize,
 ) -> Option<usize>
-    requires { Shaped empty whole nodes.now root }
-    ensures { (t : Tree E) → Holds true empty whole nodes.now root t → Lawful empty whole rules start (items t) → result ≡ last_in rules start 0 (take count (items t)) }
+    requires { Shaped E.empty E.whole nodes.now root }
+    ensures { (t : Tree E) → Holds true E.empty E.whole nodes.now root t → Lawful E.empty E.whole P.rules start (items t) → result ≡ last_in P.rules start 0 (take count (items t)) }
 {
     if size_of::<E>(nodes, root) == 0 {
         return None;

@@ -11,7 +11,7 @@ use crate::read::{read_at, size_of, sum_of};
 
 // The summary of what was passed and then a part.
 fn then_part<E: Element>(passed: Option<Pending<E, E::Sum>>, part: &E::Sum) -> E::Sum
-    ensures { (done : List E) (t : Tree E) → Ends empty whole done passed → summary empty whole t ≡ part.now → Summarizes empty whole (done ++ items t) result }
+    ensures { (done : List E) (t : Tree E) → Ends E.empty E.whole done passed → summary E.empty E.whole t ≡ part.now → Summarizes E.empty E.whole (done ++ items t) result }
 {
     match passed {
         None => *part,
@@ -21,7 +21,7 @@ fn then_part<E: Element>(passed: Option<Pending<E, E::Sum>>, part: &E::Sum) -> E
 
 // The summary of a part and then what was passed.
 fn part_then<E: Element>(part: &E::Sum, passed: Option<Pending<E, E::Sum>>) -> E::Sum
-    ensures { (done : List E) (t : Tree E) → Begins empty whole done passed → summary empty whole t ≡ part.now → Summarizes empty whole (items t ++ done) result }
+    ensures { (done : List E) (t : Tree E) → Begins E.empty E.whole done passed → summary E.empty E.whole t ≡ part.now → Summarizes E.empty E.whole (items t ++ done) result }
 {
     match passed {
         None => *part,
@@ -35,8 +35,8 @@ pub fn sum_before<E: Element>(
     root: Option<usize>,
     count: usize,
 ) -> E::Sum
-    requires { Shaped empty whole nodes.now root }
-    ensures { (t : Tree E) → Holds true empty whole nodes.now root t → Summarizes empty whole (take count (items t)) result }
+    requires { Shaped E.empty E.whole nodes.now root }
+    ensures { (t : Tree E) → Holds true E.empty E.whole nodes.now root t → Summarizes E.empty E.whole (take count (items t)) result }
 {
     let mut link = root;
     let mut rest = count;
@@ -63,8 +63,8 @@ pub fn sum_before<E: Element>(
 
 // The summary of the items from a place on, or of none where there are none.
 pub fn sum_from<E: Element>(nodes: &[Node<E, E::Sum>], root: Option<usize>, place: usize) -> E::Sum
-    requires { Shaped empty whole nodes.now root }
-    ensures { (t : Tree E) → Holds true empty whole nodes.now root t → Summarizes empty whole (drop place (items t)) result }
+    requires { Shaped E.empty E.whole nodes.now root }
+    ensures { (t : Tree E) → Holds true E.empty E.whole nodes.now root t → Summarizes E.empty E.whole (drop place (items t)) result }
 {
     let mut link = root;
     let mut rest = place;

@@ -11,11 +11,11 @@ returns-in-None g c = λ t h o.
     let laws : Lawful g.P.Priority.not_behind = record { total = g.met.P.Priority.total; transitive = g.met.P.Priority.transitive } in
     let key : Key g.row.P.Denot = record { priority = c.args.priority.now; stamp = c.args.stamp } in
     let search = key_lawful g.P.Priority.not_behind laws key (items t) o in
-    found_none g.P.Priority.not_behind laws key t _ (c.size-of.ensures t (shaped h)) (sym (c.first-hit.ensures t h search) ∙ c.in-None.is) o
+    found_none g.P.Priority.not_behind laws key t _ (c.size_of.ensures t (shaped h)) (sym (c.first_hit.ensures t h search) ∙ c.in-None.is) o
 
 pub returns-in-Some : goal.returns-in-Some
 returns-in-Some g c = λ t h o.
     let laws : Lawful g.P.Priority.not_behind = record { total = g.met.P.Priority.total; transitive = g.met.P.Priority.transitive } in
     let key : Key g.row.P.Denot = record { priority = c.args.priority.now; stamp = c.args.stamp } in
     let search = key_lawful g.P.Priority.not_behind laws key (items t) o in
-    found_at g.P.Priority.not_behind laws key t _ _ (sym (c.first-hit.ensures t h search) ∙ c.in-Some.is) (c.has-key-at.ensures t (shaped h)) o
+    found_at g.P.Priority.not_behind laws key t _ _ (sym (c.first_hit.ensures t h search) ∙ c.in-Some.is) (c.has_key_at.ensures t (shaped h)) o

@@ -1,4 +1,3 @@
-use Rattle.std.proofs.Common.{◌<◌}
 use Rattle.nodes.proofs.Nths.{nth_read}
 use Rattle.nodes.proofs.read.read_at.Goals as goal
 

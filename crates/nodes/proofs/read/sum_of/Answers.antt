@@ -3,13 +3,13 @@ use Rattle.nodes.specs.Tree.{summary}
 use Rattle.nodes.proofs.Held.{held_leaf, held_within, opened}
 use Rattle.nodes.proofs.read.sum_of.Goals as goal
 
-pub read-at-requires : goal.read-at-requires
-read-at-requires g c = held_within c.requires.holds _ c.in-Some.is
+pub read_at-requires : goal.read_at-requires
+read_at-requires g c = held_within c.requires.holds _ c.in-Some.is
 
 pub returns-in-None : goal.returns-in-None
 returns-in-None g c = λ t h. c.none.ensures ∙ sym (ap (summary g.E.Element.empty g.E.Element.whole) (held_leaf h c.in-None.is))
 
 pub returns-in-Some : goal.returns-in-Some
 returns-in-Some g c = λ t h.
-    let o = opened h _ c.in-Some.is _ c.read-at.ensures in
+    let o = opened h _ c.in-Some.is _ c.read_at.ensures in
     o.summed refl ∙ sym (ap (summary g.E.Element.empty g.E.Element.whole) o.is)
