@@ -1,14 +1,14 @@
 -- Once a depth is out of reach, every greater one is.
-use mathlib.Core.Path.{◌≡◌, refl, ap, sym, ◌∙◌}
+use mathlib.Core.Path.{◌≡◌, ap, ◌∙◌}
 use Prim.Native.Nat.{ℕ, zero, suc, ◌+◌, ◌-◌, ◌*◌, ◌^◌, ◌<◌, ◌≤◌}
 use native.Mathlib.Omega.{arith}
-use native.Mathlib.Nat.{pow_suc, mul_assoc, mul_comm, mul_right_comm, pow-le-pow_right, mul-le-mul_left, mul-le-mul_right, suc-mul}
+use native.Mathlib.Nat.{pow-suc, mul_right_comm, mul-le-mul_left, mul-le-mul_right, suc-mul}
 use native.Mathlib.Decide.{dec_lt}
 use lib.Dec.{lit<}
 
 -- one deeper, both sides of the test grow by the ratio
 pub next_sides : (a m d : ℕ) → a ^ suc d * m ≡ a ^ d * m * a
-next_sides a m d = ap (λ n. n * m) (pow_suc a d) ∙ mul_right_comm (a ^ d) a m
+next_sides a m d = ap (λ n. n * m) (pow-suc a d) ∙ mul_right_comm (a ^ d) a m
 
 grows : (a b x y : ℕ) → a ≤ b → 1 ≤ b → x < y → x * a < y * b
 grows a b x y h p l =
@@ -22,7 +22,7 @@ module _ (a b m k : ℕ) (ratio : a ≤ b) (some : 1 ≤ b) (out : a ^ k * m < b
   out_by zero = rw (let e : 0 + k ≡ k = omega arith in e) out
   out_by (suc j) =
       let e : suc j + k ≡ suc (j + k) = omega arith in
-      rw e (rw (next_sides a m (j + k), pow_suc b (j + k)) (grows a b (a ^ (j + k) * m) (b ^ (j + k)) ratio some (out_by j)))
+      rw e (rw (next_sides a m (j + k), pow-suc b (j + k)) (grows a b (a ^ (j + k) * m) (b ^ (j + k)) ratio some (out_by j)))
 
   -- so what is reached is less deep
   pub out_of_reach : (e : ℕ) → b ^ e ≤ a ^ e * m → e < k

@@ -1,4 +1,7 @@
 // How deep a tree may be for the greatest count of items that it has had.
+
+#![tactic(auto)]
+
 ghost use Rattle.std.specs.Prelude.{◌≡◌, ◌*◌, ◌^◌, ◌≤◌};
 ghost use Rattle.balance.specs.Allowances.{Allowance, Reaches, part, whole};
 

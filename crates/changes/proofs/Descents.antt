@@ -1,14 +1,14 @@
 -- One step of going down with the way kept.
-use Rattle.std.proofs.Common.{◌≡◌, ℕ, zero, suc, ◌+◌, ◌-◌, ◌<◌, ◌≤◌, Bool, true, false, List, [], ◌∷◌, ◌++◌, length, take, Some, None, Option, sym, refl, ap, ◌∙◌, subst, arith, length_append, length-take}
+use Rattle.std.proofs.Common.{◌≡◌, ℕ, suc, ◌+◌, ◌-◌, ◌<◌, ◌≤◌, Bool, true, false, List, [], ◌∷◌, ◌++◌, length, take, Some, Option, sym, refl, ap, ◌∙◌, subst, arith, length-append, length-take}
 use native.Mathlib.Decide.{dec_lt}
 use Rattle.nodes.specs.declared.node.Node.{Node}
-use Rattle.nodes.specs.Tree.{Tree, leaf, branch, items, size, height, before_of}
+use Rattle.nodes.specs.Tree.{Tree, items, size, height}
 use Rattle.std.specs.List.{slice_get}
 use Rattle.nodes.specs.Holding.{Holds}
-use Rattle.nodes.proofs.Held.{Opened, Inside, inside_opened, size_is_length, opened, unique, same_tree, held_leaf}
+use Rattle.nodes.proofs.Held.{Opened, Inside, inside_opened, size_is_length, opened, same_tree}
 use Rattle.changes.specs.declared.path.Step.{Step}
-use Rattle.changes.specs.Frames.{Frame, frame, steps_of, plug, ahead, toward, beside, Around, here}
-use Rattle.changes.specs.Ways.{Shallow, Way, Leads}
+use Rattle.changes.specs.Frames.{frame, plug, ahead, Around, here}
+use Rattle.changes.specs.Ways.{Shallow, Way}
 use Rattle.changes.proofs.Framing.{plug_push, steps_push, steps_length, height_plug, ahead_push, ahead_push_right, around_push}
 
 module _ {E S : Type 0} {empty : S} {whole : S → E → S → S} {nodes : List (Node E S)} {root link : Option ℕ} {steps : List Step} {skipped : ℕ} {all t : Tree E} (w : Way empty whole nodes root link steps skipped all t) {i : ℕ} {node : Node E S} (e : link ≡ Some i) (at : slice_get nodes i ≡ Some node) (o : Opened false empty whole nodes i node t) where
@@ -33,7 +33,7 @@ module _ {E S : Type 0} {empty : S} {whole : S → E → S → S} {nodes : List 
 
   pub way_right : {more : List Step} (n : ℕ) → n ≡ size o.before → more ≡ steps ++ (record { slot = i; left = false } ∷ []) → Way empty whole nodes root node.right more (skipped + n + 1) all o.after
   way_right n sized s =
-      let long = length_append (items o.before) (node.item ∷ []) in
+      let long = length-append (items o.before) (node.item ∷ []) in
       let b = size_is_length o.before in
       let a = w.ahead_long in
       record {
@@ -42,7 +42,7 @@ module _ {E S : Type 0} {empty : S} {whole : S → E → S → S} {nodes : List 
         around = λ must h. around_push false node (come must h) at (parts must h).0;
         held = λ must h. (parts must h).1;
         plugs = plug_push w.frames (frame false i node.item o.before) o.after ∙ ap (plug w.frames) (sym o.is) ∙ w.plugs;
-        ahead_long = ap length (ahead_push_right w.frames i node.item o.before) ∙ length_append (ahead w.frames) (items o.before ++ (node.item ∷ [])) ∙ omega arith;
+        ahead_long = ap length (ahead_push_right w.frames i node.item o.before) ∙ length-append (ahead w.frames) (items o.before ++ (node.item ∷ [])) ∙ omega arith;
       }
 
 -- what a walk down with a path keeps

@@ -1,11 +1,11 @@
 -- Frames that grow and shrink at their hole, and what a write to a slot leaves as it was.
-use Rattle.std.proofs.Common.{◌≡◌, ℕ, zero, suc, ◌+◌, ◌<◌, ◌≤◌, max, Bool, true, false, cond, eqb, List, [], ◌∷◌, ◌++◌, length, set, Some, None, Option, sym, refl, ap, ◌∙◌, subst, append_assoc, append-nil, arith, length_append, length-set}
-use Rattle.std.proofs.lemmas.Bool.Decides.{nat_tests, eqb_tells}
+use Rattle.std.proofs.Common.{◌≡◌, ℕ, zero, suc, ◌+◌, ◌<◌, ◌≤◌, Bool, true, false, cond, eqb, List, [], ◌∷◌, ◌++◌, length, set, Some, Option, sym, refl, ap, ◌∙◌, append_assoc, append-nil, arith}
+use Rattle.std.proofs.lemmas.Bool.Decides.{nat_tests}
 use Rattle.nodes.specs.declared.node.Node.{Node}
-use Rattle.nodes.specs.Tree.{Tree, leaf, branch, items, size, height, summary, uses}
+use Rattle.nodes.specs.Tree.{Tree, branch, items, size, height, summary, uses}
 use Rattle.std.specs.List.{slice_get}
 use Rattle.nodes.specs.Holding.{Holds, nothing, part}
-use Rattle.changes.specs.Frames.{Frame, frame, step_of, steps_of, fill, plug, ahead, behind, frame_uses, toward, beside, Around, here, inside, Apart}
+use Rattle.changes.specs.Frames.{Frame, frame, step_of, steps_of, fill, plug, ahead, behind, frame_uses, toward, beside, Around, here, inside}
 
 -- writing to one place of a list
 module _ {X : Type 0} where

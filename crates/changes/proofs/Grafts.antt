@@ -1,17 +1,17 @@
 -- One step of mending the way up.
-use Rattle.std.proofs.Common.{◌≡◌, ℕ, zero, suc, ◌+◌, ◌-◌, ◌^◌, ◌<◌, ◌≤◌, Bool, true, false, cond, eqb, List, [], ◌∷◌, ◌++◌, length, take, set, Some, None, Option, sym, refl, ap, ◌∙◌, subst, append_assoc, append-nil, arith, length_append, length-take}
+use Rattle.std.proofs.Common.{◌≡◌, ℕ, zero, suc, ◌+◌, ◌-◌, ◌^◌, ◌<◌, ◌≤◌, Bool, true, false, cond, eqb, List, [], ◌∷◌, ◌++◌, length, take, Some, Option, sym, refl, ap, ◌∙◌, subst, append_assoc, append-nil, arith, length-append, length-take}
 use Rattle.std.proofs.lemmas.List.{nil_from_length}
 use Rattle.std.proofs.lemmas.Bool.Decides.{nat_tests}
 use Rattle.nodes.specs.declared.node.Node.{Node}
-use Rattle.nodes.specs.Tree.{Tree, leaf, branch, items, size, uses}
+use Rattle.nodes.specs.Tree.{Tree, branch, size, uses}
 use Rattle.std.specs.List.{slice_get}
 use Rattle.nodes.specs.Holding.{Holds}
 use Rattle.nodes.proofs.Nths.{nth_same, nth_here}
 use Rattle.changes.specs.declared.path.Step.{Step}
-use Rattle.changes.specs.Frames.{Frame, frame, step_of, steps_of, fill, plug, frame_uses, toward, beside, Around, here, inside, Apart}
+use Rattle.changes.specs.Frames.{Frame, frame, step_of, steps_of, fill, plug, frame_uses, beside, Around, here, inside, Apart}
 use Rattle.changes.specs.Placed.{Placed}
-use Rattle.changes.specs.Grafted.{Relinkable, Relinked, Graft, Graftable, Grafted}
-use Rattle.changes.proofs.Framing.{nth_set_other, plug_push, steps_push, steps_length, uses_plug, frame_uses_push, size_plug, around_set}
+use Rattle.changes.specs.Grafted.{Relinkable, Relinked, Graft, Grafted}
+use Rattle.changes.proofs.Framing.{nth_set_other, steps_length, uses_plug, size_plug, around_set}
 
 -- the last frame, and those before it
 pub record Last {E : Type 0} (fs : List (Frame E)) : Type 0 where
@@ -129,7 +129,7 @@ module _ {E S : Type 0} {must : Bool} {empty : S} {whole : S → E → S → S} 
       ap (λ fs. uses i (plug fs part)) shifted ∙ ap (uses i) (plug_append top.first (frame top.left top.slot top.item top.other ∷ g.below) part) ∙ uses_plug i top.first (plug (frame top.left top.slot top.item top.other ∷ g.below) part) ∙ ap (λ n. frame_uses i top.first + n) (uses_fill i top.left top.slot top.item top.other (plug g.below part))
 
   pub counted : length top.first + 1 ≡ k
-  counted = let c = g.count in let l = ap length top.is ∙ length_append top.first (frame top.left top.slot top.item top.other ∷ []) in omega arith
+  counted = let c = g.count in let l = ap length top.is ∙ length-append top.first (frame top.left top.slot top.item top.other ∷ []) in omega arith
 
   pub top_step : (steps : List Step) (n : ℕ) {step : Step} → steps_of frames ≡ take n steps → k ≤ n → slice_get steps (k - 1) ≡ Some step → record { slot = top.slot; left = top.left } ≡ step
   top_step steps n {step} traced within at =

@@ -1,18 +1,17 @@
 -- What a new leaf at the end of a way makes of the tree and of its list.
-use Rattle.std.proofs.Common.{◌≡◌, ℕ, zero, suc, ◌+◌, ◌-◌, ◌^◌, ◌<◌, ◌≤◌, Bool, true, false, cond, eqb, List, [], ◌∷◌, ◌++◌, length, take, drop, set, Some, None, Option, sym, refl, ap, ◌∙◌, subst, append_assoc, append-nil, arith, take_at, drop_at}
+use Rattle.std.proofs.Common.{◌≡◌, ℕ, suc, ◌+◌, ◌^◌, ◌<◌, ◌≤◌, Bool, true, false, List, [], ◌∷◌, ◌++◌, length, drop, Some, None, Option, sym, refl, ap, ◌∙◌, subst, arith, take_at, drop_at}
 use Rattle.std.proofs.lemmas.Bool.Decides.{nat_tests}
 use Rattle.nodes.specs.declared.node.Node.{Node}
 use Rattle.nodes.specs.Tree.{Tree, leaf, branch, items, size, uses}
 use Rattle.std.specs.List.{slice_get}
-use Rattle.nodes.specs.Holding.{Holds, nothing, Shaped}
-use Rattle.nodes.proofs.Held.{shaped}
+use Rattle.nodes.specs.Holding.{Holds, nothing}
 use Rattle.changes.specs.declared.path.Step.{Step}
-use Rattle.changes.specs.Frames.{Frame, frame, steps_of, fill, plug, ahead, behind, frame_uses, Around, Apart}
+use Rattle.changes.specs.Frames.{Frame, frame, plug, ahead, behind, frame_uses, Around, Apart}
 use Rattle.changes.specs.Placed.{Placed}
-use Rattle.changes.specs.Grafted.{Graft, Graftable, Grafted}
+use Rattle.changes.specs.Grafted.{Graft, Grafted}
 use Rattle.changes.specs.Ways.{Way}
-use Rattle.changes.specs.Inserted.{inserted, Room}
-use Rattle.changes.proofs.Framing.{items_plug, uses_plug, nth_set_other, held_set, around_set}
+use Rattle.changes.specs.Inserted.{inserted}
+use Rattle.changes.proofs.Framing.{items_plug, uses_plug, nth_set_other, around_set}
 
 module _ {E : Type 0} where
   -- a part in the hole brings its own uses and its own size

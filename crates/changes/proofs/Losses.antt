@@ -1,25 +1,25 @@
 -- What a tree and its list lose with a node that has at most one part.
-use Rattle.std.proofs.Common.{◌≡◌, ℕ, zero, suc, ◌+◌, ◌-◌, ◌^◌, ◌<◌, ◌≤◌, max, Bool, true, false, cond, eqb, ◌⊎◌, List, [], ◌∷◌, ◌++◌, length, take, drop, set, Some, None, Option, sym, refl, ap, ◌∙◌, subst, inl, inr, append_assoc, append-nil, arith, length_append, length-take, take_at}
+use Rattle.std.proofs.Common.{◌≡◌, ℕ, zero, suc, ◌+◌, ◌^◌, ◌<◌, ◌≤◌, max, Bool, true, false, cond, eqb, ◌⊎◌, List, [], ◌∷◌, ◌++◌, length, take, drop, set, Some, None, Option, sym, refl, ap, ◌∙◌, subst, inl, inr, append_assoc, append-nil, arith, length-take, take_at}
 use Rattle.nodes.specs.declared.node.Node.{Node}
 use Rattle.nodes.specs.Tree.{Tree, leaf, branch, items, size, height, uses, before_of}
 use Rattle.std.specs.List.{slice_get}
 use Rattle.nodes.specs.Holding.{size_at, Holds, nothing, part}
-use Rattle.nodes.proofs.Nths.{nth_here, nth_within}
-use Rattle.nodes.proofs.Held.{Opened, opened, same_tree, size_is_length, held_leaf, held_within, stored_right}
+use Rattle.nodes.proofs.Nths.{nth_within}
+use Rattle.nodes.proofs.Held.{size_is_length, held_leaf, held_within, stored_right}
 use Rattle.nodes.proofs.Fronts.{drop_past}
 use Rattle.changes.specs.declared.path.Step.{Step}
 use Rattle.changes.specs.declared.found.Found.{Found}
-use Rattle.changes.specs.Frames.{Frame, frame, steps_of, plug, ahead, behind, frame_uses, Around, Apart}
-use Rattle.changes.specs.Grafted.{Graft, Graftable, Grafted}
+use Rattle.changes.specs.Frames.{Frame, frame, plug, ahead, behind, Apart}
+use Rattle.changes.specs.Grafted.{Graft}
 use Rattle.changes.specs.Ways.{Way, Leads}
 use Rattle.changes.specs.declared.changed.Changed.{Changed}
 use Rattle.changes.specs.declared.removed.Removed.{Removed}
 use Rattle.changes.specs.Replaced.{Swapped}
-use Rattle.changes.specs.Removed.{removed, FoundWay, Leftmost, TakenOut, TakesOut, Takes}
-use Rattle.changes.proofs.Framing.{items_plug, uses_plug, size_plug, height_plug, steps_length}
+use Rattle.changes.specs.Removed.{removed, Leftmost, TakenOut, TakesOut, Takes}
+use Rattle.changes.proofs.Framing.{items_plug, uses_plug, height_plug, steps_length}
 use Rattle.changes.proofs.Descents.{way_left, way_right, way_for, way_for_link}
 use Rattle.changes.proofs.Growths.{size_swap}
-use Rattle.changes.proofs.Swaps.{end, end_was, end_uses, around_item, front_long, swap_found}
+use Rattle.changes.proofs.Swaps.{end, end_was, end_uses, around_item, front_long}
 
 pub height_mono : {E : Type 0} (fs : List (Frame E)) (t u : Tree E) → height t ≤ height u → height (plug fs t) ≤ height (plug fs u)
 height_mono [] t u h = h

@@ -1,27 +1,27 @@
 -- What another item at the end of a way makes of the tree and of its list.
-use Rattle.std.proofs.Common.{◌≡◌, ℕ, zero, suc, ◌+◌, ◌-◌, ◌^◌, ◌<◌, ◌≤◌, Bool, true, false, cond, eqb, List, [], ◌∷◌, ◌++◌, length, set, Some, None, Option, sym, refl, ap, ◌∙◌, subst, append_assoc, append-nil, arith, length_append}
+use Rattle.std.proofs.Common.{◌≡◌, ℕ, ◌+◌, ◌^◌, ◌<◌, Bool, cond, eqb, List, ◌∷◌, ◌++◌, length, set, Some, Option, sym, refl, ap, ◌∙◌, subst, append_assoc, arith, length-append}
 use lib.Seq.{set_at}
 use Rattle.nodes.specs.declared.node.Node.{Node}
-use Rattle.nodes.specs.Tree.{Tree, leaf, branch, items, size, uses, before_of}
+use Rattle.nodes.specs.Tree.{Tree, branch, items, size, uses}
 use Rattle.std.specs.List.{slice_get}
-use Rattle.nodes.specs.Holding.{Holds, Shaped, size_at}
+use Rattle.nodes.specs.Holding.{Holds, size_at}
 use Rattle.nodes.proofs.Nths.{nth_here}
-use Rattle.nodes.proofs.Held.{Opened, opened, same_tree, size_is_length, stored_right}
+use Rattle.nodes.proofs.Held.{Opened, opened, size_is_length, stored_right}
 use Rattle.changes.specs.declared.path.Step.{Step}
-use Rattle.changes.specs.Frames.{Frame, steps_of, plug, ahead, behind, frame_uses, Around, Apart}
+use Rattle.changes.specs.Frames.{Frame, plug, ahead, behind, frame_uses, Around, Apart}
 use Rattle.changes.specs.Placed.{Placed}
-use Rattle.changes.specs.Grafted.{Graft, Graftable, Grafted}
+use Rattle.changes.specs.Grafted.{Graft, Grafted}
 use Rattle.changes.specs.Ways.{Way}
 use Rattle.changes.proofs.Framing.{items_plug, uses_plug, size_plug, nth_set_other, around_set}
 use Rattle.changes.proofs.Grafts.{own, apart_from}
-use Rattle.changes.proofs.Growths.{uses_swap, size_swap}
+use Rattle.changes.proofs.Growths.{size_swap}
 
 module _ {E : Type 0} (fs : List (Frame E)) (slot place : ℕ) (old new : E) (before after : Tree E) (at : length (ahead fs) + size before ≡ place) where
   pub around_item : (x : E) → items (plug fs (branch slot x before after)) ≡ (ahead fs ++ items before) ++ (x ∷ (items after ++ behind fs))
   around_item x = items_plug fs (branch slot x before after) ∙ ap (λ l. ahead fs ++ l) (append_assoc (items before) (x ∷ items after) (behind fs)) ∙ sym (append_assoc (ahead fs) (items before) (x ∷ (items after ++ behind fs)))
 
   pub front_long : length (ahead fs ++ items before) ≡ place
-  front_long = length_append (ahead fs) (items before) ∙ (let e = size_is_length before in omega arith)
+  front_long = length-append (ahead fs) (items before) ∙ (let e = size_is_length before in omega arith)
 
   pub swap_lists : items (plug fs (branch slot new before after)) ≡ set (items (plug fs (branch slot old before after))) place new
   swap_lists = around_item new ∙ sym (ap (λ l. set l place new) (around_item old) ∙ set_at (ahead fs ++ items before) old (items after ++ behind fs) new place front_long)

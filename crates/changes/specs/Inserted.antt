@@ -32,3 +32,8 @@ pub record Inserted {E S : Type 0} (must : Bool) (empty : S) (whole : S → E �
   pub holds : Holds must empty whole exit r.root (plug frames (branch slot item leaf leaf))
   pub lists : items (plug frames (branch slot item leaf leaf)) ≡ inserted place item (items t)
   pub kept : (k : ℕ) → uses k t ≡ 0 → (k ≢ slot) → slice_get exit k ≡ slice_get entry k
+
+-- the same, with as many items ahead of the new leaf as its place says
+pub record InsertedThere {E S : Type 0} (must : Bool) (empty : S) (whole : S → E → S → S) (entry exit : List (Node E S)) (place slot : ℕ) (item : E) (t : Tree E) (r : Grown) : Type 0 where
+  pub inserted : Inserted must empty whole entry exit place slot item t r
+  pub gap : length (ahead inserted.frames) ≡ place

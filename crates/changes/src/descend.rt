@@ -12,9 +12,9 @@ use nodes::{Element, Node};
 
 // The way to the gap before the item at a place, or to the one at the end.
 pub fn to_gap<E: Element>(nodes: &[Node<E, E::Sum>], root: Option<usize>, place: usize) -> Path
-    requires shallow { Shallow empty whole nodes.now root }
+    requires shallow { Shallow E.empty E.whole nodes.now root }
     requires within { place ≤ size_at nodes.now root }
-    ensures way { (t : Tree E) → Holds false empty whole nodes.now root t → Way empty whole nodes.now root None (trace result.steps result.len) place t leaf }
+    ensures way { (t : Tree E) → Holds false E.empty E.whole nodes.now root t → Way E.empty E.whole nodes.now root None (trace result.steps result.len) place t leaf }
     ensures path { result.len ≤ length result.steps }
 {
     let mut path = Path::new();
@@ -47,8 +47,8 @@ pub fn to_item<E: Element>(
     root: Option<usize>,
     place: usize,
 ) -> Option<Found>
-    requires { Shallow empty whole nodes.now root }
-    ensures { (t : Tree E) → Holds false empty whole nodes.now root t → Reached empty whole nodes.now root place t result }
+    requires { Shallow E.empty E.whole nodes.now root }
+    ensures { (t : Tree E) → Holds false E.empty E.whole nodes.now root t → Reached E.empty E.whole nodes.now root place t result }
 {
     let mut path = Path::new();
     let mut link = root;

@@ -12,8 +12,8 @@ use nodes::{Element, Node};
 
 // Puts a part in the place of the one that a step leads to.
 fn relink<E: Element>(nodes: &mut [Node<E, E::Sum>], step: Step, link: Option<usize>)
-    requires { Relinkable empty whole nodes.old step.left step.slot link }
-    ensures { Relinked empty whole nodes.old nodes.new step.left step.slot link }
+    requires { Relinkable E.empty E.whole nodes.old step.left step.slot link }
+    ensures { Relinked E.empty E.whole nodes.old nodes.new step.left step.slot link }
 {
     let node = read_at(nodes, step.slot);
     if step.left {
@@ -29,9 +29,9 @@ pub fn graft<E: Element>(
     path: &Path,
     link: Option<usize>,
 ) -> Option<usize>
-    requires parts { Graftable empty whole nodes.old link (trace path.now.steps path.now.len) }
+    requires parts { Graftable E.empty E.whole nodes.old link (trace path.now.steps path.now.len) }
     requires path { path.now.len ≤ length path.now.steps }
-    ensures { (must : Bool) (root hole : Option ℕ) (frames : List (Frame E)) (part : Tree E) → Graft must empty whole nodes.old root frames hole link part (trace path.now.steps path.now.len) → Grafted must empty whole nodes.old nodes.new result frames part }
+    ensures { (must : Bool) (root hole : Option ℕ) (frames : List (Frame E)) (part : Tree E) → Graft must E.empty E.whole nodes.old root frames hole link part (trace path.now.steps path.now.len) → Grafted must E.empty E.whole nodes.old nodes.new result frames part }
 {
     let mut above = link;
     let mut k = path.len;

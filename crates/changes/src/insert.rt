@@ -2,7 +2,7 @@
 ghost use Rattle.std.specs.Prelude.{◌≡◌, Bool};
 ghost use Rattle.nodes.specs.Tree.{Tree};
 ghost use Rattle.nodes.specs.Holding.{Holds};
-ghost use Rattle.changes.specs.Inserted.{Room, Inserted};
+ghost use Rattle.changes.specs.Inserted.{Room, InsertedThere};
 
 use crate::descend::to_gap;
 use crate::graft::graft;
@@ -18,8 +18,8 @@ pub fn insert<E: Element>(
     slot: usize,
     item: E,
 ) -> Grown
-    requires { Room empty whole nodes.old root at slot }
-    ensures { (must : Bool) (t : Tree E) → Holds must empty whole nodes.old root t → Inserted must empty whole nodes.old nodes.new at slot item t result }
+    requires { Room E.empty E.whole nodes.old root at slot }
+    ensures { (must : Bool) (t : Tree E) → Holds must E.empty E.whole nodes.old root t → InsertedThere must E.empty E.whole nodes.old nodes.new at slot item t result }
 {
     let path = to_gap::<E>(nodes, root, at);
     place::<E>(nodes, slot, item, None, None);

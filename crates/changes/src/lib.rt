@@ -1,4 +1,7 @@
 // Walks that change a tree of nodes in a lent slice: each names the tree that it leaves.
+
+#![tactic(auto)]
+
 pub mod changed;
 pub mod descend;
 pub mod found;

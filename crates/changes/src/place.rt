@@ -22,10 +22,10 @@ pub fn place<E: Element>(
     right: Option<usize>,
 )
     requires within { slot < length nodes.old }
-    requires left { Shaped empty whole nodes.old left }
-    requires right { Shaped empty whole nodes.old right }
+    requires left { Shaped E.empty E.whole nodes.old left }
+    requires right { Shaped E.empty E.whole nodes.old right }
     requires fits { size_at nodes.old left + size_at nodes.old right + 1 < 2 ^ 64 }
-    ensures { Placed empty whole nodes.old nodes.new slot item left right }
+    ensures { Placed E.empty E.whole nodes.old nodes.new slot item left right }
 {
     let size = size_of::<E>(nodes, left) + size_of::<E>(nodes, right) + 1;
     let before = sum_of::<E>(nodes, left);

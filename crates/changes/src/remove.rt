@@ -20,8 +20,8 @@ use nodes::{Element, Node};
 
 // The first node of the part at the end of a path, and the way to it.
 fn to_first<E: Element>(nodes: &[Node<E, E::Sum>], from: Found) -> Found
-    requires { Beginning empty whole nodes.now from }
-    ensures { (root : Option ℕ) (skipped : ℕ) (all t : Tree E) → Holds false empty whole nodes.now root all → height all ≤ 32 → Way empty whole nodes.now root (Some from.slot) (trace from.path.steps from.path.len) skipped all t → Leftmost empty whole nodes.now root skipped all result }
+    requires { Beginning E.empty E.whole nodes.now from }
+    ensures { (root : Option ℕ) (skipped : ℕ) (all t : Tree E) → Holds false E.empty E.whole nodes.now root all → height all ≤ 32 → Way E.empty E.whole nodes.now root (Some from.slot) (trace from.path.steps from.path.len) skipped all t → Leftmost E.empty E.whole nodes.now root skipped all result }
 {
     let mut path = from.path;
     let mut slot = from.slot;
@@ -39,8 +39,8 @@ fn take_out<E: Element>(
     rest: Option<usize>,
     item: E,
 ) -> Removed<E>
-    requires { FoundWay empty whole nodes.old found.now rest item }
-    ensures { (must : Bool) (root : Option ℕ) (place : ℕ) (t : Tree E) → Holds must empty whole nodes.old root t → Leads empty whole nodes.old root place t found.now → Apart t → size t < 2 ^ 64 → TakenOut must empty whole nodes.old nodes.new place t result }
+    requires { FoundWay E.empty E.whole nodes.old found.now rest item }
+    ensures { (must : Bool) (root : Option ℕ) (place : ℕ) (t : Tree E) → Holds must E.empty E.whole nodes.old root t → Leads E.empty E.whole nodes.old root place t found.now → Apart t → size t < 2 ^ 64 → TakenOut must E.empty E.whole nodes.old nodes.new place t result }
 {
     let root = graft::<E>(nodes, &found.path, rest);
     Removed {
@@ -57,8 +57,8 @@ fn remove_inner<E: Element>(
     found: Found,
     next: usize,
 ) -> Option<Removed<E>>
-    requires { Inner empty whole nodes.old at found next }
-    ensures { (must : Bool) (root : Option ℕ) (t : Tree E) → Holds must empty whole nodes.old root t → Leads empty whole nodes.old root at t found → Apart t → size t < 2 ^ 64 → height t ≤ 32 → TakesOut must empty whole nodes.old nodes.new at t result }
+    requires { Inner E.empty E.whole nodes.old at found next }
+    ensures { (must : Bool) (root : Option ℕ) (t : Tree E) → Holds must E.empty E.whole nodes.old root t → Leads E.empty E.whole nodes.old root at t found → Apart t → size t < 2 ^ 64 → height t ≤ 32 → TakesOut must E.empty E.whole nodes.old nodes.new at t result }
 {
     let mut path = found.path;
     path.push(Step {
@@ -84,8 +84,8 @@ pub fn remove<E: Element>(
     root: Option<usize>,
     at: usize,
 ) -> Option<Removed<E>>
-    requires { Sound empty whole nodes.old root }
-    ensures { (must : Bool) (t : Tree E) → Holds must empty whole nodes.old root t → Takes must empty whole nodes.old nodes.new at t result }
+    requires { Sound E.empty E.whole nodes.old root }
+    ensures { (must : Bool) (t : Tree E) → Holds must E.empty E.whole nodes.old root t → Takes must E.empty E.whole nodes.old nodes.new at t result }
 {
     let Some(found) = to_item::<E>(nodes, root, at) else {
         return None;

@@ -18,8 +18,8 @@ pub fn replace<E: Element>(
     at: usize,
     item: E,
 ) -> Option<Changed<E>>
-    requires { Sound empty whole nodes.old root }
-    ensures { (must : Bool) (t : Tree E) → Holds must empty whole nodes.old root t → Replaced must empty whole nodes.old nodes.new at item t result }
+    requires { Sound E.empty E.whole nodes.old root }
+    ensures { (must : Bool) (t : Tree E) → Holds must E.empty E.whole nodes.old root t → Replaced must E.empty E.whole nodes.old nodes.new at item t result }
 {
     let Some(found) = to_item::<E>(nodes, root, at) else {
         return None;

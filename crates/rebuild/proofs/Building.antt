@@ -1,18 +1,17 @@
 -- What the loop that builds keeps.
-use Rattle.std.proofs.Common.{◌≡◌, ℕ, zero, suc, ◌+◌, ◌-◌, ◌*◌, ◌/◌, ◌^◌, ◌<◌, ◌≤◌, Bool, true, false, cond, List, [], ◌∷◌, ◌++◌, length, take, drop, set, Some, None, Option, sym, refl, ap, ◌∙◌, subst, pow_suc, add-one, arith, length-take, take_all}
+use Rattle.std.proofs.Common.{◌≡◌, ℕ, zero, suc, ◌+◌, ◌-◌, ◌*◌, ◌/◌, ◌^◌, ◌<◌, ◌≤◌, Bool, true, false, cond, List, [], ◌∷◌, length, take, Some, Option, sym, refl, ap, ◌∙◌, subst, pow-suc, add-one, arith, take_all}
 use Rattle.nodes.specs.declared.node.Node.{Node}
-use Rattle.nodes.specs.Tree.{Tree, leaf, branch, items, slots, size, uses}
+use Rattle.nodes.specs.Tree.{leaf}
 use Rattle.std.specs.List.{slice_get}
-use Rattle.nodes.specs.Holding.{size_at, Holds, nothing, Shaped}
-use Rattle.nodes.proofs.Nths.{nth_same, nth_within}
+use Rattle.nodes.specs.Holding.{Holds, nothing}
 use Rattle.nodes.proofs.Held.{shaped, stored_right}
 use Rattle.changes.specs.Chains.{count}
 use Rattle.rebuild.specs.declared.task.Task.{Task}
-use Rattle.rebuild.specs.Stacks.{Stack, bottom, above}
-use Rattle.rebuild.specs.Shapes.{Even, even_leaf, even_branch, root_of, Labelled, Rebuilt, Closable, Closed}
+use Rattle.rebuild.specs.Stacks.{Stack}
+use Rattle.rebuild.specs.Shapes.{even_leaf, root_of, Labelled, Rebuilt, Closable, Closed}
 use Rattle.rebuild.proofs.Stacking.{Top, stack_top, stack_none, stack_long}
-use Rattle.rebuild.proofs.Ranges.{range, nth_range, nth_there}
-use Rattle.rebuild.proofs.Plans.{Span, span, Built, AllBuilt, Below, Choice, ToBuild, ToClose, Plan, Halving, Roomy, plan_split, weight, weights, weighed, weighed_right}
+use Rattle.rebuild.proofs.Ranges.{nth_range, nth_there}
+use Rattle.rebuild.proofs.Plans.{Span, span, Built, AllBuilt, Choice, ToBuild, ToClose, Plan, Halving, Roomy, plan_split, weight, weights, weighed, weighed_right}
 use Rattle.rebuild.proofs.Heights.{even_low}
 use Rattle.rebuild.proofs.Builds.{close_built, close_rest, close_kept, close_labelled}
 
@@ -42,7 +41,7 @@ weight_some t = go t.close
 -- half of a number below a power of two is below the next lower one
 halved : (n b l : ℕ) → 0 < n → n < 2 ^ b → l + 2 * b ≤ 26 → (d : ℕ) × (n / 2 < 2 ^ d) × (n - n / 2 - 1 < 2 ^ d) × (suc (suc l) + 2 * d ≤ 26)
 halved n zero l some h w = absurd (omega arith)
-halved n (suc b) l some h w = let p = pow_suc 2 b in (b, omega arith, omega arith, omega arith)
+halved n (suc b) l some h w = let p = pow-suc 2 b in (b, omega arith, omega arith, omega arith)
 
 module _ {E S : Type 0} {empty : S} {whole : S → E → S → S} {entry nodes : List (Node E S)} {order : List ℕ} {total : ℕ} {list : List E} {tasks : List Task} {len : ℕ} (b : Building empty whole entry nodes order total list tasks len) (m : ℕ) (task : Task) (popped : len ≡ m + 1) (at : slice_get tasks m ≡ Some task) where
   abbrev pub top : Top tasks m task b.ts

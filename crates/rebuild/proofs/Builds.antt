@@ -1,16 +1,14 @@
 -- One step of building, and what it keeps.
-use Rattle.std.proofs.Common.{◌≡◌, ℕ, zero, suc, ◌+◌, ◌-◌, ◌*◌, ◌/◌, ◌^◌, ◌<◌, ◌≤◌, Bool, true, false, cond, List, [], ◌∷◌, ◌++◌, length, take, drop, set, Some, None, Option, sym, refl, ap, ◌∙◌, subst, arith, length-take, take_all}
+use Rattle.std.proofs.Common.{◌≡◌, ℕ, suc, ◌+◌, ◌-◌, ◌/◌, ◌<◌, ◌≤◌, Bool, true, List, [], ◌∷◌, ◌++◌, length, take, Some, sym, refl, ap, ◌∙◌, subst, arith}
 use native.Mathlib.Decide.{ℕ_discrete}
 use Rattle.nodes.specs.declared.node.Node.{Node}
-use Rattle.nodes.specs.Tree.{Tree, leaf, branch, items, slots, size, uses}
+use Rattle.nodes.specs.Tree.{Tree, branch, items, slots, uses}
 use Rattle.std.specs.List.{slice_get}
-use Rattle.nodes.specs.Holding.{size_at, Holds, nothing, part, Shaped}
-use Rattle.nodes.proofs.Nths.{nth_same, nth_within}
-use Rattle.nodes.proofs.Held.{shaped, stored_right, size_is_length}
+use Rattle.nodes.specs.Holding.{Holds, part}
+use Rattle.nodes.proofs.Nths.{nth_same}
 use Rattle.changes.specs.Chains.{count}
 use Rattle.changes.proofs.Framing.{held_set, nth_set_other}
-use Rattle.rebuild.specs.declared.task.Task.{Task}
-use Rattle.rebuild.specs.Shapes.{Even, even_leaf, even_branch, root_of, Labelled, Rebuilt, Closable, Closed}
+use Rattle.rebuild.specs.Shapes.{even_branch, root_of, Labelled, Closed}
 use Rattle.rebuild.proofs.Ranges.{root_some, range, range_split, range_take, nth_range, nth_there, count_before, count_after, count_nth, uses_count}
 use Rattle.rebuild.proofs.Plans.{Span, span, Built, AllBuilt, Below}
 

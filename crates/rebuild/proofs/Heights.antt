@@ -1,7 +1,7 @@
 -- The balanced shape is as low as can be: a tree of one level more would have more items.
-use Rattle.std.proofs.Common.{◌≡◌, ℕ, zero, suc, ◌+◌, ◌*◌, ◌/◌, ◌^◌, ◌<◌, ◌≤◌, max, sym, refl, ap, ◌∙◌, pow_suc, arith}
+use Rattle.std.proofs.Common.{◌≡◌, ℕ, suc, ◌+◌, ◌*◌, ◌^◌, ◌≤◌, max, pow-suc, arith}
 use native.Mathlib.Decide.{dec_le}
-use Rattle.nodes.specs.Tree.{Tree, leaf, branch, size, height}
+use Rattle.nodes.specs.Tree.{Tree, size, height}
 use Rattle.nodes.proofs.Held.{height_size}
 use Rattle.rebuild.specs.Shapes.{Even, even_leaf, even_branch}
 
@@ -27,5 +27,5 @@ even_low (even_branch {before = before} {after = after} half eb ea) h =
     let b : 2 ^ height before ≤ s = half_low before s (omega arith) (omega arith) (even_low eb) in
     let a : 2 ^ height after ≤ s = half_low after s (omega arith) (omega arith) (even_low ea) in
     let m : 2 ^ max (height before) (height after) ≤ s = pow_max (height before) (height after) s b a in
-    let p = pow_suc 2 (max (height before) (height after)) in
+    let p = pow-suc 2 (max (height before) (height after)) in
     omega arith

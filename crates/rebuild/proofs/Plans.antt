@@ -1,19 +1,13 @@
 -- What the tasks on the stack will make of the spans that are built.
-use Rattle.std.proofs.Common.{◌≡◌, ℕ, zero, suc, ◌+◌, ◌-◌, ◌*◌, ◌/◌, ◌^◌, ◌<◌, ◌≤◌, Bool, true, false, cond, List, [], ◌∷◌, ◌++◌, length, take, drop, set, Some, None, Option, sym, refl, ap, ◌∙◌, subst, arith, take_all}
+use Rattle.std.proofs.Common.{◌≡◌, ℕ, zero, suc, ◌+◌, ◌-◌, ◌*◌, ◌/◌, ◌^◌, ◌<◌, ◌≤◌, Bool, true, false, cond, List, [], ◌∷◌, length, Some, None, Option, refl, ap, ◌∙◌, arith}
 use Rattle.nodes.specs.declared.node.Node.{Node}
-use Rattle.nodes.specs.Tree.{Tree, leaf, branch, items, slots, size, uses}
+use Rattle.nodes.specs.Tree.{Tree, items, slots, size}
 use Rattle.std.specs.List.{slice_get}
-use Rattle.nodes.specs.Holding.{size_at, Holds, nothing, Shaped}
-use Rattle.nodes.proofs.Nths.{nth_same, nth_within}
-use Rattle.nodes.proofs.Held.{shaped, stored_right, size_is_length}
-use Rattle.changes.specs.Placed.{Placed}
-use Rattle.changes.specs.Chains.{count}
-use Rattle.changes.proofs.Framing.{held_set, nth_set_same, nth_set_other}
+use Rattle.nodes.specs.Holding.{Holds}
 use Rattle.rebuild.specs.declared.task.Task.{Task}
 use Rattle.rebuild.specs.Stacks.{Stack, bottom, above}
-use Rattle.rebuild.specs.Shapes.{Even, even_leaf, even_branch, root_of, Labelled, Rebuilt, Closable, Closed}
-use Rattle.rebuild.proofs.Slots.{slots_long}
-use Rattle.rebuild.proofs.Ranges.{root_some, range, range_split, nth_range, count_before, count_after, count_nth, uses_count}
+use Rattle.rebuild.specs.Shapes.{Even, root_of}
+use Rattle.rebuild.proofs.Ranges.{range}
 
 -- the places from one on, so many
 pub data Span : Type 0 where

@@ -1,7 +1,7 @@
 -- Ranges of places, and the slots and items in them.
-use Rattle.std.proofs.Common.{◌≡◌, ℕ, zero, suc, ◌+◌, ◌-◌, ◌/◌, ◌<◌, ◌≤◌, Bool, true, false, cond, eqb, List, [], ◌∷◌, ◌++◌, length, take, drop, Some, None, Option, sym, refl, ap, ◌∙◌, subst, arith}
+use Rattle.std.proofs.Common.{◌≡◌, ℕ, zero, suc, ◌+◌, ◌/◌, ◌<◌, ◌≤◌, cond, eqb, List, [], ◌∷◌, ◌++◌, length, take, drop, Some, sym, refl, ap, ◌∙◌, arith}
 use Rattle.std.proofs.lemmas.Bool.Decides.{nat_tests}
-use Rattle.nodes.specs.Tree.{Tree, leaf, branch, items, slots, size, uses}
+use Rattle.nodes.specs.Tree.{Tree, leaf, branch, slots, uses}
 use Rattle.std.specs.List.{slice_get}
 use Rattle.changes.specs.Chains.{count}
 use Rattle.rebuild.specs.Shapes.{root_of}

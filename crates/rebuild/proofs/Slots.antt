@@ -1,5 +1,5 @@
 -- Where the slots of a branch stand in its list of slots.
-use Rattle.std.proofs.Common.{◌≡◌, ℕ, zero, suc, ◌+◌, ◌-◌, ◌<◌, ◌≤◌, Bool, List, [], ◌∷◌, ◌++◌, length, take, set, Some, None, sym, refl, ap, ◌∙◌, add-one, arith, length_append}
+use Rattle.std.proofs.Common.{◌≡◌, ℕ, zero, suc, ◌+◌, ◌-◌, ◌<◌, Bool, List, [], ◌∷◌, ◌++◌, length, take, set, Some, None, sym, refl, ap, ◌∙◌, add-one, arith, length-append}
 use Rattle.std.proofs.lemmas.List.{take_more_set}
 use Rattle.nodes.specs.declared.node.Node.{Node}
 use Rattle.nodes.specs.Tree.{Tree, leaf, branch, slots, size}
@@ -12,7 +12,7 @@ slots_long leaf = refl
 slots_long (branch slot item before after) =
     let b = slots_long before in
     let a = slots_long after in
-    length_append (slots before) (slot ∷ slots after) ∙ omega arith
+    length-append (slots before) (slot ∷ slots after) ∙ omega arith
 
 module _ {E S : Type 0} {must : Bool} {empty : S} {whole : S → E → S → S} {nodes : List (Node E S)} {slot : ℕ} {node : Node E S} {t : Tree E} (o : Opened must empty whole nodes slot node t) (n i : ℕ) (sized : n ≡ size o.before) where
   shown : slice_get (slots t) i ≡ slice_get (slots o.before ++ (slot ∷ slots o.after)) i

@@ -22,8 +22,8 @@ fn root_of(order: &[usize], lo: usize, count: usize) -> Option<usize>
 
 // Writes the root of a range whose halves are built.
 fn close<E: Element>(nodes: &mut [Node<E, E::Sum>], order: &[usize], lo: usize, count: usize)
-    requires { Closable empty whole nodes.old order.now lo count }
-    ensures { Closed empty whole nodes.old nodes.new order.now lo count }
+    requires { Closable E.empty E.whole nodes.old order.now lo count }
+    ensures { Closed E.empty E.whole nodes.old nodes.new order.now lo count }
 {
     let before = count / 2;
     let after = count - before - 1;
@@ -69,7 +69,7 @@ pub fn build<E: Element>(
     count: usize,
 ) -> Option<usize>
     requires { Buildable nodes.old order.now count }
-    ensures { (list : List E) → length list ≡ count → Labelled nodes.old (take count order.now) list → Rebuilt empty whole nodes.old nodes.new (take count order.now) list result }
+    ensures { (list : List E) → length list ≡ count → Labelled nodes.old (take count order.now) list → Rebuilt E.empty E.whole nodes.old nodes.new (take count order.now) list result }
 {
     let mut tasks = Tasks::new();
     tasks.push(Task {

@@ -14,8 +14,8 @@ fn slot_at<E: Element>(
     root: Option<usize>,
     place: usize,
 ) -> Option<usize>
-    requires { Shaped empty whole nodes.now root }
-    ensures { (t : Tree E) → Holds false empty whole nodes.now root t → result ≡ slice_get (slots t) place }
+    requires { Shaped E.empty E.whole nodes.now root }
+    ensures { (t : Tree E) → Holds false E.empty E.whole nodes.now root t → result ≡ slice_get (slots t) place }
 {
     let mut link = root;
     let mut rest = place;
@@ -40,10 +40,10 @@ pub fn in_order<E: Element>(
     root: Option<usize>,
     order: &mut [usize],
 ) -> usize
-    requires shape { Shaped empty whole nodes.now root }
+    requires shape { Shaped E.empty E.whole nodes.now root }
     requires room { size_at nodes.now root ≤ length order.old }
-    ensures slots { (t : Tree E) → Holds false empty whole nodes.now root t → take result order.new ≡ slots t }
-    ensures count { (t : Tree E) → Holds false empty whole nodes.now root t → result ≡ size t }
+    ensures slots { (t : Tree E) → Holds false E.empty E.whole nodes.now root t → take result order.new ≡ slots t }
+    ensures count { (t : Tree E) → Holds false E.empty E.whole nodes.now root t → result ≡ size t }
 {
     let count = size_of::<E>(nodes, root);
     for k in 0..count {

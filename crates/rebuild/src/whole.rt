@@ -24,8 +24,8 @@ impl Order {
 
 // Gives the part at a link the balanced shape, with the same slots and items in the same order, and returns its root.
 pub fn rebuild<E: Element>(nodes: &mut [Node<E, E::Sum>], root: Option<usize>) -> Option<usize>
-    requires { Rebuildable empty whole nodes.old root }
-    ensures { (t : Tree E) → Holds false empty whole nodes.old root t → Rebuilt empty whole nodes.old nodes.new (slots t) (items t) result }
+    requires { Rebuildable E.empty E.whole nodes.old root }
+    ensures { (t : Tree E) → Holds false E.empty E.whole nodes.old root t → Rebuilt E.empty E.whole nodes.old nodes.new (slots t) (items t) result }
 {
     let mut order = Order::new();
     let count = in_order::<E>(nodes, root, &mut order.slots);

@@ -1,5 +1,5 @@
-use Rattle.std.proofs.Common.{◌≡◌, ◌+◌, ◌<◌, ◌≤◌, sym, refl, ap, ◌∙◌, arith}
-use Rattle.nodes.specs.Tree.{size, before_of}
+use Rattle.std.proofs.Common.{◌<◌, refl, ap, arith}
+use Rattle.nodes.specs.Tree.{size}
 use Rattle.nodes.proofs.Held.{held_within, left_shaped, left_less, right_less, inside_opened, held_leaf, unique, stored_right}
 use Rattle.changes.proofs.Descents.{walk_room, walk_start, walk_left, walk_right, sides, way_for, way_for_link}
 use Rattle.changes.proofs.descend.to_gap.Goals as goal
@@ -7,52 +7,52 @@ use Rattle.changes.proofs.descend.to_gap.Goals as goal
 pub loop-link-init : goal.loop-link-init
 loop-link-init g c = walk_start c.requires.shallow c.new-path.ensures.none c.new-path.ensures.empty c.new-path.ensures.room
 
-pub read-at-node-requires : goal.read-at-node-requires
-read-at-node-requires g c = held_within c.loop-link.invariant.rest_held _ c.in-Some.is
+pub read_at-node-requires : goal.read_at-node-requires
+read_at-node-requires g c = held_within c.loop-link.invariant.rest_held _ c.in-Some.is
 
-pub size-of-before-requires : goal.size-of-before-requires
-size-of-before-requires g c = left_shaped c.loop-link.invariant _ c.in-Some.is _ c.read-at-node.ensures
+pub size_of-before-requires : goal.size_of-before-requires
+size_of-before-requires g c = left_shaped c.loop-link.invariant _ c.in-Some.is _ c.read_at-node.ensures
 
 pub push-requires : goal.push-requires
-push-requires g c = record { room = walk_room c.loop-link.invariant c.in-Some.is c.read-at-node.ensures; long = c.loop-link.invariant.kept.long }
+push-requires g c = record { room = walk_room c.loop-link.invariant c.in-Some.is c.read_at-node.ensures; long = c.loop-link.invariant.kept.long }
 
 pub push-requires-else-rest-before : goal.push-requires-else-rest-before
-push-requires-else-rest-before g c = record { room = walk_room c.loop-link.invariant c.in-Some.is c.read-at-node.ensures; long = c.loop-link.invariant.kept.long }
+push-requires-else-rest-before g c = record { room = walk_room c.loop-link.invariant c.in-Some.is c.read_at-node.ensures; long = c.loop-link.invariant.kept.long }
 
 pub loop-link-smaller-then-rest-before : goal.loop-link-smaller-then-rest-before
-loop-link-smaller-then-rest-before g c = left_less c.loop-link.invariant _ c.in-Some.is _ c.read-at-node.ensures
+loop-link-smaller-then-rest-before g c = left_less c.loop-link.invariant _ c.in-Some.is _ c.read_at-node.ensures
 
 pub loop-link-smaller : goal.loop-link-smaller
-loop-link-smaller g c = right_less c.loop-link.invariant _ c.in-Some.is _ c.read-at-node.ensures
+loop-link-smaller g c = right_less c.loop-link.invariant _ c.in-Some.is _ c.read_at-node.ensures
 
 pub loop-link-preserved-then-rest-before : goal.loop-link-preserved-then-rest-before
 loop-link-preserved-then-rest-before g c =
-    let o = inside_opened c.loop-link.invariant _ c.in-Some.is _ c.read-at-node.ensures in
-    let n = c.size-of-before.ensures _ o.left in
+    let o = inside_opened c.loop-link.invariant _ c.in-Some.is _ c.read_at-node.ensures in
+    let n = c.size_of-before.ensures _ o.left in
     let p = c.push.ensures in
     let less = c.if-rest-before.true in
-    walk_left c.loop-link.invariant c.in-Some.is c.read-at-node.ensures p.more p.len p.long (λ h. omega arith)
+    walk_left c.loop-link.invariant c.in-Some.is c.read_at-node.ensures p.more p.len p.long (λ h. omega arith)
 
 pub loop-link-preserved : goal.loop-link-preserved
 loop-link-preserved g c =
-    let o = inside_opened c.loop-link.invariant _ c.in-Some.is _ c.read-at-node.ensures in
-    let n = c.size-of-before.ensures _ o.left in
+    let o = inside_opened c.loop-link.invariant _ c.in-Some.is _ c.read_at-node.ensures in
+    let n = c.size_of-before.ensures _ o.left in
     let p = c.push-else-rest-before.ensures in
-    let s = sides c.loop-link.invariant c.in-Some.is c.read-at-node.ensures in
-    let more : c.size-of-before.result < c.loop-link.rest = omega arith in
-    walk_right c.loop-link.invariant c.in-Some.is c.read-at-node.ensures _ n more p.more p.len p.long (λ h. omega arith)
+    let s = sides c.loop-link.invariant c.in-Some.is c.read_at-node.ensures in
+    let more : c.size_of-before.result < c.loop-link.rest = omega arith in
+    walk_right c.loop-link.invariant c.in-Some.is c.read_at-node.ensures _ n more p.more p.len p.long (λ h. omega arith)
 
 pub returns : goal.returns
 returns g c =
     let inv = c.loop-link.invariant in
     let k = inv.kept in
-    let none = held_leaf inv.rest_held c.in-default.is in
+    let none = held_leaf inv.rest_held c.in_default.is in
     let small = ap size none in
     let total = stored_right inv.all_held in
     let in_all = c.requires.within in
     let in_rest = k.within (omega arith) in
     let a = k.adds in
     record {
-      way = λ t h. way_for (way_for_link k.way c.in-default.is (unique inv.all_held h)) (omega arith) refl none;
+      way = λ t h. way_for (way_for_link k.way c.in_default.is (unique inv.all_held h)) (omega arith) refl none;
       path = let f = k.fits in let l = k.long in omega arith;
     }

@@ -1,4 +1,4 @@
-use Rattle.std.proofs.Common.{◌≡◌, ◌+◌, ◌^◌, ◌<◌, false, None, sym, refl, ap, ◌∙◌, subst, arith}
+use Rattle.std.proofs.Common.{◌+◌, ◌^◌, ◌<◌, None, sym, ap, ◌∙◌, subst, arith}
 use Rattle.nodes.specs.Tree.{leaf, branch, items, size, uses}
 use Rattle.nodes.specs.Holding.{nothing}
 use Rattle.nodes.proofs.Held.{shaped, stored_right, unique}
@@ -7,8 +7,8 @@ use Rattle.changes.specs.Inserted.{inserted}
 use Rattle.changes.proofs.Growths.{new_graft, new_kept, insert_lists}
 use Rattle.changes.proofs.insert.insert.Goals as goal
 
-pub to-gap-path-requires : goal.to-gap-path-requires
-to-gap-path-requires g c =
+pub to_gap-path-requires : goal.to_gap-path-requires
+to_gap-path-requires g c =
     let r = c.requires in
     let s = stored_right r.holds in
     let p = r.place_within in
@@ -20,24 +20,27 @@ place-requires g c = record { within = c.requires.slot_within; left = record { t
 pub graft-root-requires : goal.graft-root-requires
 graft-root-requires g c =
     let r = c.requires in
-    let w = c.to-gap-path.ensures.way r.tree r.holds in
-    record { parts = record { graft = new_graft w c.place.ensures r.holds r.apart r.spare r.fits; root = c.args.root; frames = w.frames; hole = None; part = branch c.args.slot c.args.item leaf leaf }; path = c.to-gap-path.ensures.path }
+    let w = c.to_gap-path.ensures.way r.tree r.holds in
+    record { parts = record { graft = new_graft w c.place.ensures r.holds r.apart r.spare r.fits; root = c.args.root; frames = w.frames; hole = None; part = branch c.args.slot c.args.item leaf leaf }; path = c.to_gap-path.ensures.path }
 
 pub returns : goal.returns
 returns g c = λ must t h.
     let r = c.requires in
     let same = unique r.holds h in
-    let w = c.to-gap-path.ensures.way t (shaped h) in
+    let w = c.to_gap-path.ensures.way t (shaped h) in
     let apart = subst Apart same r.apart in
     let spare = ap (uses c.args.slot) (sym same) ∙ r.spare in
     let fits = subst (λ u. size u + 1 < 2 ^ 64) same r.fits in
     let grafted = c.graft-root.ensures must _ _ w.frames _ (new_graft w c.place.ensures h apart spare fits) in
     record {
-      frames = w.frames;
-      traced = w.traced;
-      path = c.to-gap-path.ensures.path;
-      was = w.plugs;
-      holds = grafted.holds;
-      lists = insert_lists w.frames c.args.slot c.args.at c.args.item w.ahead-long ∙ ap (λ u. inserted c.args.at c.args.item (items u)) w.plugs;
-      kept = new_kept w c.place.ensures h apart spare fits grafted;
+      inserted = record {
+        frames = w.frames;
+        traced = w.traced;
+        path = c.to_gap-path.ensures.path;
+        was = w.plugs;
+        holds = grafted.holds;
+        lists = insert_lists w.frames c.args.slot c.args.at c.args.item w.ahead_long ∙ ap (λ u. inserted c.args.at c.args.item (items u)) w.plugs;
+        kept = new_kept w c.place.ensures h apart spare fits grafted;
+      };
+      gap = w.ahead_long;
     }

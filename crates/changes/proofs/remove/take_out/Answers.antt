@@ -1,5 +1,5 @@
-use Rattle.std.proofs.Common.{◌≡◌, Some, sym, refl, ap, ◌∙◌, subst}
-use Rattle.nodes.specs.Tree.{branch, items, size, height, uses}
+use Rattle.std.proofs.Common.{Some, sym, ap, ◌∙◌}
+use Rattle.nodes.specs.Tree.{items, size, height, uses}
 use Rattle.std.specs.List.{slice_get}
 use Rattle.changes.specs.Frames.{plug}
 use Rattle.changes.specs.Removed.{removed}

@@ -1,4 +1,4 @@
-use Rattle.std.proofs.Common.{◌≡◌, ℕ, ◌≤◌, false, length, Some, Option}
+use Rattle.std.proofs.Common.{ℕ, ◌≤◌, false, Some, Option}
 use Rattle.nodes.specs.Tree.{Tree, height}
 use Rattle.nodes.specs.Holding.{Holds, size_at}
 use Rattle.changes.specs.Trace.{trace}

@@ -1,4 +1,4 @@
-use Rattle.std.proofs.Common.{◌≡◌, ◌+◌, ◌^◌, ◌<◌, length, set, Some, sym, refl, ap, ◌∙◌, subst, arith}
+use Rattle.std.proofs.Common.{◌≡◌, ◌+◌, ◌^◌, ◌<◌, length, set, Some, sym, refl, ap, ◌∙◌, subst}
 use Rattle.nodes.specs.Tree.{branch, items, size, before_of}
 use Rattle.std.specs.List.{slice_get}
 use Rattle.nodes.proofs.Held.{shaped, unique, held_within}
@@ -7,14 +7,14 @@ use Rattle.changes.specs.Ways.{Reached}
 use Rattle.changes.proofs.Swaps.{end, end_was, end_fits, swap_graft, swap_kept, swap_lists, swap_found}
 use Rattle.changes.proofs.replace.replace.Goals as goal
 
-pub to-item-requires : goal.to-item-requires
-to-item-requires g c = let r = c.requires in record { tree = r.tree; holds = r.holds; low = r.low }
+pub to_item-requires : goal.to_item-requires
+to_item-requires g c = let r = c.requires in record { tree = r.tree; holds = r.holds; low = r.low }
 
-pub returns-in-default : goal.returns-in-default
-returns-in-default g c = λ must t h. let e = g.E.Element in (subst (Reached e.empty e.whole c.args.nodes.now c.args.root c.args.at t) c.in-default.is (c.to-item.ensures t (shaped h)), refl)
+pub returns-in_default : goal.returns-in_default
+returns-in_default g c = λ must t h. let e = g.E.Element in (subst (Reached e.empty e.whole c.args.nodes.now c.args.root c.args.at t) c.in_default.is (c.to_item.ensures t (shaped h)), refl)
 
-pub read-at-node-requires : goal.read-at-node-requires
-read-at-node-requires g c =
+pub read_at-node-requires : goal.read_at-node-requires
+read_at-node-requires g c =
     let r = c.requires in
     let l = c.in-Some.ensures r.tree r.holds in
     held_within (l.way.held _ r.holds) _ refl
@@ -23,21 +23,21 @@ pub place-requires : goal.place-requires
 place-requires g c =
     let r = c.requires in
     let l = c.in-Some.ensures r.tree r.holds in
-    let o = end l.way c.read-at-node.ensures r.holds in
+    let o = end l.way c.read_at-node.ensures r.holds in
     record {
       within = held_within (l.way.held _ r.holds) _ refl;
       left = record { tree = o.before; holds = o.left };
       right = record { tree = o.after; holds = o.right };
-      fits = end_fits l.way c.read-at-node.ensures r.holds r.fits;
+      fits = end_fits l.way c.read_at-node.ensures r.holds r.fits;
     }
 
 pub graft-root-requires : goal.graft-root-requires
 graft-root-requires g c =
     let r = c.requires in
     let l = c.in-Some.ensures r.tree r.holds in
-    let o = end l.way c.read-at-node.ensures r.holds in
+    let o = end l.way c.read_at-node.ensures r.holds in
     record {
-      parts = record { root = c.args.root; frames = l.way.frames; hole = Some c.in-Some.found.slot; part = branch c.in-Some.found.slot c.args.item o.before o.after; graft = swap_graft l.way c.read-at-node.ensures r.holds c.place.ensures r.apart r.fits };
+      parts = record { root = c.args.root; frames = l.way.frames; hole = Some c.in-Some.found.slot; part = branch c.in-Some.found.slot c.args.item o.before o.after; graft = swap_graft l.way c.read_at-node.ensures r.holds c.place.ensures r.apart r.fits };
       path = l.path;
     }
 
@@ -48,12 +48,12 @@ returns g c = λ must t h.
     let apart = subst Apart same r.apart in
     let fits = subst (λ u. size u < 2 ^ 64) same r.fits in
     let l = c.in-Some.ensures t (shaped h) in
-    let o = end l.way c.read-at-node.ensures h in
-    let was = end_was l.way c.read-at-node.ensures h in
+    let o = end l.way c.read_at-node.ensures h in
+    let was = end_was l.way c.read_at-node.ensures h in
     let slot = c.in-Some.found.slot in
-    let old = c.read-at-node.result.item in
+    let old = c.read_at-node.result.item in
     let place : length (ahead l.way.frames) + size o.before ≡ c.args.at = ap (λ n. n + size o.before) l.way.ahead_long ∙ ap (λ u. l.skipped + size (before_of u)) (sym o.is) ∙ l.at in
-    let grafted = c.graft-root.ensures must _ _ l.way.frames _ (swap_graft l.way c.read-at-node.ensures h c.place.ensures apart fits) in
+    let grafted = c.graft-root.ensures must _ _ l.way.frames _ (swap_graft l.way c.read_at-node.ensures h c.place.ensures apart fits) in
     record {
       frames = l.way.frames;
       slot = slot;
@@ -63,5 +63,5 @@ returns g c = λ must t h.
       holds = grafted.holds;
       found = ap (λ u. slice_get (items u) c.args.at) (sym was) ∙ swap_found l.way.frames slot c.args.at old c.args.item o.before o.after place;
       lists = swap_lists l.way.frames slot c.args.at old c.args.item o.before o.after place ∙ ap (λ u. set (items u) c.args.at c.args.item) was;
-      kept = swap_kept l.way c.read-at-node.ensures h c.place.ensures apart fits grafted;
+      kept = swap_kept l.way c.read_at-node.ensures h c.place.ensures apart fits grafted;
     }

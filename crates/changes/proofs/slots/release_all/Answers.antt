@@ -1,4 +1,4 @@
-use Rattle.std.proofs.Common.{◌≡◌, sym, refl, ap, ◌∙◌, subst, arith}
+use Rattle.std.proofs.Common.{refl, arith}
 use Rattle.changes.specs.Chains.{ends}
 use Rattle.changes.proofs.Chaining.{freed_more}
 use Rattle.changes.proofs.slots.release_all.Goals as goal

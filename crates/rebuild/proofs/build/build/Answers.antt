@@ -1,4 +1,4 @@
-use Rattle.std.proofs.Common.{◌≡◌, ◌+◌, ◌^◌, ◌<◌, ◌≤◌, [], ◌∷◌, length, sym, refl, ap, ◌∙◌, subst, arith}
+use Rattle.std.proofs.Common.{◌≡◌, ◌<◌, [], length, sym, ap, ◌∙◌, subst, arith}
 use Rattle.rebuild.specs.Stacks.{Stack, bottom}
 use Rattle.rebuild.proofs.Plans.{weighed}
 use Rattle.rebuild.proofs.Building.{Building, build_within, build_room, build_none, build_split, weigh_split, weigh_less, closable, build_close, build_start, build_end}
@@ -94,10 +94,10 @@ loop-task-preserved g c =
           (build_none (i.2 list long labelled) c.pop.new.self.len c.in-Some.task o.0 o.2 c.if-task.false z),
     )
 
-pub root-of-requires : goal.root-of-requires
-root-of-requires g c = let w = c.requires.within in omega arith
+pub root_of-requires : goal.root_of-requires
+root_of-requires g c = let w = c.requires.within in omega arith
 
 pub returns : goal.returns
 returns g c = λ list long labelled.
-    let o = c.in-default.ensures in
-    build_end (c.loop-task.invariant.2 list long labelled) o.0 long c.root-of.ensures
+    let o = c.in_default.ensures in
+    build_end (c.loop-task.invariant.2 list long labelled) o.0 long c.root_of.ensures

@@ -1,7 +1,7 @@
-use Rattle.std.proofs.Common.{◌≡◌, false}
-use Rattle.nodes.specs.Tree.{Tree, slots}
+use Rattle.std.proofs.Common.{◌≡◌}
+use Rattle.nodes.specs.Tree.{slots}
 use Rattle.std.specs.List.{slice_get}
-use Rattle.nodes.specs.Holding.{Holds, size_at}
+use Rattle.nodes.specs.Holding.{size_at}
 use Rattle.nodes.proofs.Held.{Inside}
 use Rattle.rebuild.proofs.order.slot_at.Given as goal
 

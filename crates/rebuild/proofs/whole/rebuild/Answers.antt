@@ -1,5 +1,5 @@
-use Rattle.std.proofs.Common.{◌≡◌, ◌+◌, ◌<◌, ◌≤◌, length, take, sym, refl, ap, ◌∙◌, subst, arith}
-use Rattle.nodes.specs.Tree.{items, slots, size}
+use Rattle.std.proofs.Common.{◌≤◌, sym, ◌∙◌, subst, arith}
+use Rattle.nodes.specs.Tree.{items}
 use Rattle.nodes.proofs.Held.{stored_right, size_is_length}
 use Rattle.changes.specs.Chains.{count}
 use Rattle.rebuild.specs.Shapes.{Labelled, Rebuilt}
@@ -7,8 +7,8 @@ use Rattle.rebuild.proofs.Ranges.{uses_count}
 use Rattle.rebuild.proofs.Labels.{labelled_tree}
 use Rattle.rebuild.proofs.whole.rebuild.Goals as goal
 
-pub in-order-count-requires : goal.in-order-count-requires
-in-order-count-requires g c =
+pub in_order-count-requires : goal.in_order-count-requires
+in_order-count-requires g c =
     let p = c.requires in
     let s = stored_right p.holds in
     let l = c.new-order.ensures in
@@ -18,11 +18,11 @@ in-order-count-requires g c =
 pub build-requires : goal.build-requires
 build-requires g c =
     let p = c.requires in
-    let o = c.in-order-count.ensures in
+    let o = c.in_order-count.ensures in
     let shown = o.slots p.tree p.holds in
     let n = o.count p.tree p.holds in
     let l = c.new-order.ensures in
-    let k = c.in-order-count.auto.order in
+    let k = c.in_order-count.auto.order in
     let m = p.small in
     record {
       list = items p.tree;
@@ -36,7 +36,7 @@ build-requires g c =
 pub returns : goal.returns
 returns g c = λ t h.
     let e = g.E.Element in
-    let o = c.in-order-count.ensures in
+    let o = c.in_order-count.ensures in
     let shown = o.slots t h in
     subst (λ ss. Rebuilt e.empty e.whole c.args.nodes.now c.build.new.nodes ss (items t) c.build.result) shown
     (c.build.ensures (items t) (size_is_length t ∙ sym (o.count t h)) (subst (λ ss. Labelled c.args.nodes.now ss (items t)) (sym shown) (labelled_tree h)))
