@@ -18,7 +18,7 @@ pub fn insert_at<E: Element>(
     item: E,
 ) -> Result<(), TreeRefusal>
     requires { Structured nodes.old links.old }
-    ensures { Inserts empty whole nodes.old links.old nodes.new links.new place item result }
+    ensures { Inserts E.empty E.whole nodes.old links.old nodes.new links.new place item result }
 {
     if place > links.count {
         return Err(TreeRefusal::NoPlace);

@@ -8,7 +8,7 @@ use nodes::{Element, Node};
 
 // An empty tree in any memory; what the nodes held is forgotten.
 pub fn emptied<E: Element>(nodes: &mut [Node<E, E::Sum>]) -> Links
-    ensures { Emptied empty whole nodes.new result }
+    ensures { Emptied E.empty E.whole nodes.new result }
 {
     let free = release_all(nodes);
     Links {

@@ -38,14 +38,14 @@ pub fn depth_at<E: Element>(nodes: &[Node<E, E::Sum>], links: Links, place: usiz
 
 pub fn sum_before<E: Element>(nodes: &[Node<E, E::Sum>], links: Links, count: usize) -> E::Sum
     requires { Structured nodes.now links }
-    ensures { Right empty whole nodes.now links → Summarizes empty whole (take count (listed nodes.now links)) result }
+    ensures { Right E.empty E.whole nodes.now links → Summarizes E.empty E.whole (take count (listed nodes.now links)) result }
 {
     nodes::sum_before::<E>(nodes, links.root, count)
 }
 
 pub fn sum_from<E: Element>(nodes: &[Node<E, E::Sum>], links: Links, place: usize) -> E::Sum
     requires { Structured nodes.now links }
-    ensures { Right empty whole nodes.now links → Summarizes empty whole (drop place (listed nodes.now links)) result }
+    ensures { Right E.empty E.whole nodes.now links → Summarizes E.empty E.whole (drop place (listed nodes.now links)) result }
 {
     nodes::sum_from::<E>(nodes, links.root, place)
 }
@@ -57,7 +57,7 @@ pub fn first_hit<E: Element, P: Probe<E, E::Sum>>(
     from: usize,
 ) -> Option<usize>
     requires { Structured nodes.now links }
-    ensures { Right empty whole nodes.now links → Lawful empty whole rules start (listed nodes.now links) → result ≡ first_in rules (passed rules start (take from (listed nodes.now links))) from (drop from (listed nodes.now links)) }
+    ensures { Right E.empty E.whole nodes.now links → Lawful E.empty E.whole P.rules start (listed nodes.now links) → result ≡ first_in rules (passed P.rules start (take from (listed nodes.now links))) from (drop from (listed nodes.now links)) }
 {
     nodes::first_hit::<E, P>(nodes, links.root, start, from)
 }
@@ -69,7 +69,7 @@ pub fn last_hit<E: Element, P: Probe<E, E::Sum>>(
     count: usize,
 ) -> Option<usize>
     requires { Structured nodes.now links }
-    ensures { Right empty whole nodes.now links → Lawful empty whole rules start (listed nodes.now links) → result ≡ last_in rules start 0 (take count (listed nodes.now links)) }
+    ensures { Right E.empty E.whole nodes.now links → Lawful E.empty E.whole P.rules start (listed nodes.now links) → result ≡ last_in P.rules start 0 (take count (listed nodes.now links)) }
 {
     nodes::last_hit::<E, P>(nodes, links.root, start, count)
 }

@@ -15,7 +15,7 @@ pub fn remove_at<E: Element>(
     place: usize,
 ) -> Option<E>
     requires { Structured nodes.old links.old }
-    ensures { Removes empty whole nodes.old links.old nodes.new links.new place result }
+    ensures { Removes E.empty E.whole nodes.old links.old nodes.new links.new place result }
 {
     let Some(shrunk) = remove::<E>(nodes, links.root, place, links.most) else {
         return None;

@@ -15,7 +15,7 @@ pub fn replace_at<E: Element>(
     item: E,
 ) -> Option<E>
     requires { Structured nodes.old links.old }
-    ensures { Replaces empty whole nodes.old links.old nodes.new links.new place item result }
+    ensures { Replaces E.empty E.whole nodes.old links.old nodes.new links.new place item result }
 {
     let Some(changed) = replace::<E>(nodes, links.root, place, item) else {
         return None;

@@ -28,7 +28,7 @@ pub struct Tree<'a, E: Element> {
 impl<'a, E: Element> Tree<'a, E> {
     // An empty tree in any memory; what the nodes held is forgotten.
     pub fn new(nodes: &'a mut [Node<E, E::Sum>]) -> Tree<'a, E>
-        ensures emptied { Emptied empty whole result.nodes.now result.links }
+        ensures emptied { Emptied E.empty E.whole result.nodes.now result.links }
         ensures capacity { capacity_of result.nodes.now ≡ capacity_of nodes.old }
     {
         let links = emptied::<E>(nodes);
@@ -75,7 +75,7 @@ impl<'a, E: Element> Tree<'a, E> {
     // The summary of the first `count` items, or of all where there are fewer.
     pub fn sum_before(&self, count: usize) -> E::Sum
         requires { Structured self.now.nodes.now self.now.links }
-        ensures { Right empty whole self.now.nodes.now self.now.links → Summarizes empty whole (take count (listed self.now.nodes.now self.now.links)) result }
+        ensures { Right E.empty E.whole self.now.nodes.now self.now.links → Summarizes E.empty E.whole (take count (listed self.now.nodes.now self.now.links)) result }
     {
         reads::sum_before::<E>(self.nodes, self.links, count)
     }
@@ -83,7 +83,7 @@ impl<'a, E: Element> Tree<'a, E> {
     // The summary of the items from a place on, or of none where there are none.
     pub fn sum_from(&self, place: usize) -> E::Sum
         requires { Structured self.now.nodes.now self.now.links }
-        ensures { Right empty whole self.now.nodes.now self.now.links → Summarizes empty whole (drop place (listed self.now.nodes.now self.now.links)) result }
+        ensures { Right E.empty E.whole self.now.nodes.now self.now.links → Summarizes E.empty E.whole (drop place (listed self.now.nodes.now self.now.links)) result }
     {
         reads::sum_from::<E>(self.nodes, self.links, place)
     }
@@ -91,7 +91,7 @@ impl<'a, E: Element> Tree<'a, E> {
     // The first place from `from` on at which the probe hits, where `start` has passed nothing.
     pub fn first_hit<P: Probe<E, E::Sum>>(&self, start: P, from: usize) -> Option<usize>
         requires { Structured self.now.nodes.now self.now.links }
-        ensures { Right empty whole self.now.nodes.now self.now.links → Lawful empty whole rules start (listed self.now.nodes.now self.now.links) → result ≡ first_in rules (passed rules start (take from (listed self.now.nodes.now self.now.links))) from (drop from (listed self.now.nodes.now self.now.links)) }
+        ensures { Right E.empty E.whole self.now.nodes.now self.now.links → Lawful E.empty E.whole P.rules start (listed self.now.nodes.now self.now.links) → result ≡ first_in rules (passed P.rules start (take from (listed self.now.nodes.now self.now.links))) from (drop from (listed self.now.nodes.now self.now.links)) }
     {
         reads::first_hit::<E, P>(self.nodes, self.links, start, from)
     }
@@ -99,13 +99,13 @@ impl<'a, E: Element> Tree<'a, E> {
     // The last of the first `count` places at which the probe hits, where `start` has passed nothing.
     pub fn last_hit<P: Probe<E, E::Sum>>(&self, start: P, count: usize) -> Option<usize>
         requires { Structured self.now.nodes.now self.now.links }
-        ensures { Right empty whole self.now.nodes.now self.now.links → Lawful empty whole rules start (listed self.now.nodes.now self.now.links) → result ≡ last_in rules start 0 (take count (listed self.now.nodes.now self.now.links)) }
+        ensures { Right E.empty E.whole self.now.nodes.now self.now.links → Lawful E.empty E.whole P.rules start (listed self.now.nodes.now self.now.links) → result ≡ last_in P.rules start 0 (take count (listed self.now.nodes.now self.now.links)) }
     {
         reads::last_hit::<E, P>(self.nodes, self.links, start, count)
     }
 
     pub fn clear(&mut self)
-        ensures emptied { Emptied empty whole self.new.nodes.now self.new.links }
+        ensures emptied { Emptied E.empty E.whole self.new.nodes.now self.new.links }
         ensures capacity { capacity_of self.new.nodes.now ≡ capacity_of self.old.nodes.now }
     {
         self.links = emptied::<E>(self.nodes);
@@ -114,7 +114,7 @@ impl<'a, E: Element> Tree<'a, E> {
     // Puts an item before the one at a place, or at the end.
     pub fn insert_at(&mut self, place: usize, item: E) -> Result<(), TreeRefusal>
         requires { Structured self.old.nodes.now self.old.links }
-        ensures { Inserts empty whole self.old.nodes.now self.old.links self.new.nodes.now self.new.links place item result }
+        ensures { Inserts E.empty E.whole self.old.nodes.now self.old.links self.new.nodes.now self.new.links place item result }
     {
         let mut links = self.links;
         let reply = insert_at::<E>(self.nodes, &mut links, place, item);
@@ -125,7 +125,7 @@ impl<'a, E: Element> Tree<'a, E> {
     // Takes out the item at a place; none past the end.
     pub fn remove_at(&mut self, place: usize) -> Option<E>
         requires { Structured self.old.nodes.now self.old.links }
-        ensures { Removes empty whole self.old.nodes.now self.old.links self.new.nodes.now self.new.links place result }
+        ensures { Removes E.empty E.whole self.old.nodes.now self.old.links self.new.nodes.now self.new.links place result }
     {
         let mut links = self.links;
         let reply = remove_at::<E>(self.nodes, &mut links, place);
@@ -136,7 +136,7 @@ impl<'a, E: Element> Tree<'a, E> {
     // Replaces the item at a place, and tells the one that was there; none past the end.
     pub fn replace_at(&mut self, place: usize, item: E) -> Option<E>
         requires { Structured self.old.nodes.now self.old.links }
-        ensures { Replaces empty whole self.old.nodes.now self.old.links self.new.nodes.now self.new.links place item result }
+        ensures { Replaces E.empty E.whole self.old.nodes.now self.old.links self.new.nodes.now self.new.links place item result }
     {
         let mut links = self.links;
         let reply = replace_at::<E>(self.nodes, &mut links, place, item);

@@ -5,8 +5,8 @@ use Rattle.trees.proofs.Growing.{low_enough}
 use Rattle.trees.proofs.Deepness.{deep_by}
 use Rattle.trees.proofs.reads.depth_at.Goals as goal
 
-pub to-item-requires : goal.to-item-requires
-to-item-requires g c =
+pub to_item-requires : goal.to_item-requires
+to_item-requires g c =
     let e = g.E.Element in
     let l = laid e.empty e.whole c.requires in
     record { tree = tree_of c.args.nodes.now c.args.links; holds = l.holds e.empty e.whole; low = low_enough c.args.links.most (tree_of c.args.nodes.now c.args.links) l.few l.low }
