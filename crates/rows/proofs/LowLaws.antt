@@ -1,5 +1,5 @@
 -- The probe for a low sum is lawful on few rows.
-use Rattle.std.proofs.Common.{◌≡◌, ℕ, suc, ◌+◌, ◌≤◌, Bool, true, false, ◌||◌, List, [], ◌∷◌, ◌++◌, length, ℤ, pos, ◌+ℤ◌, Some, None, Option, sym, refl, ap, ◌∙◌, subst, arith, length_append}
+use Rattle.std.proofs.Common.{◌≡◌, ℕ, ◌+◌, ◌≤◌, Bool, ◌||◌, List, [], ◌∷◌, ◌++◌, length, ℤ, pos, ◌+ℤ◌, Some, None, Option, sym, refl, ap, ◌∙◌, subst, arith, length-append}
 use lib.Signed.{le_z}
 use Rattle.std.specs.Int.{int_min}
 use Rattle.std.specs.Option.{option_map}
@@ -17,7 +17,7 @@ use Rattle.rows.specs.Tallies.{plus, tally_of, tally_then}
 use Rattle.rows.specs.Sums.{no_rows, sum_whole}
 use Rattle.rows.specs.Probes.{passes, step_of, start_of, low_sum}
 use Rattle.rows.proofs.Stamps.{passes_chosen}
-use Rattle.rows.proofs.Shares.{Within, step_within, within_sum, within_more, plus_exact, low_later, low_plus, low_lesser, shares, shares_append, shares_within, tally, tally_none, tally_whole, total_is}
+use Rattle.rows.proofs.Shares.{Within, step_within, within_sum, within_more, plus_exact, low_later, low_plus, low_lesser, shares, shares_within, tally, tally_none, tally_whole, total_is}
 
 passes_same : {A : Type 0} (test other : A → Bool) → ((x : A) → test x ≡ other x) → (o : Option A) → passes test o ≡ passes other o
 passes_same test other same None = refl
@@ -93,7 +93,7 @@ module _ {P : Type 0} (nb : P → P → Bool) (sum : Sum) where
   -- the probe past the first of few rows
   module _ (fs bs : List (RowItem P)) (t : Tree (RowItem P)) (few : length (fs ++ (items t ++ bs)) ≤ most_entries) where
     room : length fs + size t ≤ most_entries
-    room = let l = size_is_length t in omega (arith, length_append fs (items t ++ bs), length_append (items t) bs)
+    room = let l = size_is_length t in omega (arith, length-append fs (items t ++ bs), length-append (items t) bs)
 
     start_within : Within (length fs) (pos 0 +ℤ shares sum fs)
     start_within = let w = shares_within sum fs in record { low = omega (arith, ints); high = omega (arith, ints) }

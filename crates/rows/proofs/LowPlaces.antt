@@ -1,5 +1,5 @@
 -- The hits of the probe for a low sum are the places asked for.
-use Rattle.std.proofs.Common.{◌≡◌, ℕ, zero, suc, ◌+◌, ◌-◌, ◌<◌, ◌≤◌, min, Bool, true, false, cond, List, [], ◌∷◌, ◌++◌, length, take, drop, ℤ, pos, ◌+ℤ◌, Some, None, Option, sym, refl, ap, ◌∙◌, subst, add-zero, arith, length-drop, length-take, take-take, take-add}
+use Rattle.std.proofs.Common.{◌≡◌, ℕ, suc, ◌+◌, ◌-◌, ◌<◌, ◌≤◌, min, Bool, true, false, cond, List, [], ◌∷◌, ◌++◌, length, take, drop, ℤ, pos, ◌+ℤ◌, Some, None, Option, sym, refl, ap, ◌∙◌, add-zero, arith, length-drop, length-take, take-take, take-add}
 use lib.ListN.{length-map}
 use lib.Signed.{le_z}
 use Rattle.std.specs.Option.{option_map, option_or}
@@ -110,8 +110,8 @@ module _ {P : Type 0} (sum : Sum) where
         let n = length-take p xs in
         let same : take k (take p xs) ≡ take k xs = take-take k p xs (omega arith) in
         let at : 0 + k ≡ k = omega arith in
-        let from-none : shares sum (take k (take p xs)) ≡ pos 0 +ℤ shares sum (take k (take p xs)) = omega (arith, ints) in
-        ap test at ∙ ap (λ z. le_z z (pos 0)) (running_is xs k ∙ ap (shares sum) (sym same) ∙ from-none)
+        let from_none : shares sum (take k (take p xs)) ≡ pos 0 +ℤ shares sum (take k (take p xs)) = omega (arith, ints) in
+        ap test at ∙ ap (λ z. le_z z (pos 0)) (running_is xs k ∙ ap (shares sum) (sym same) ∙ from_none)
 
     module _ (q p : ℕ) (at : q ≡ place_in (rows_of xs) p) where
       -- the answer from place q on

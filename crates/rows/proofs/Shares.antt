@@ -1,5 +1,5 @@
 -- The sums of few rows: 32 bits hold them, so no sum is cut short, and the summary of a tree has them right.
-use Rattle.std.proofs.Common.{◌≡◌, ℕ, zero, suc, ◌+◌, ◌^◌, ◌<◌, ◌≤◌, Bool, true, false, cond, ◌||◌, List, [], ◌∷◌, ◌++◌, map, length, take, ℤ, pos, negsuc, ◌+ℤ◌, ◌≤ℤ◌, None, sym, refl, ap, ◌∙◌, subst, arith, length-take}
+use Rattle.std.proofs.Common.{◌≡◌, ℕ, ◌+◌, ◌^◌, ◌<◌, ◌≤◌, Bool, ◌||◌, List, [], ◌∷◌, ◌++◌, length, take, ℤ, pos, negsuc, ◌+ℤ◌, ◌≤ℤ◌, None, sym, refl, ap, ◌∙◌, arith, length-take}
 use lib.Signed.{le_z}
 use Rattle.std.specs.Int.{saturate_to_bits, int_min}
 use Rattle.std.proofs.lemmas.List.{take-map}

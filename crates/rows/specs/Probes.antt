@@ -1,5 +1,5 @@
 -- What the two probes ask of rows and of their summaries.
-use Rattle.std.specs.Prelude.{ℕ, ◌+◌, ◌-◌, ◌^◌, min, Bool, true, false, leb, List, take, ℤ, pos, Some, None, Option, ◌==◌, int_le, nat_le}
+use Rattle.std.specs.Prelude.{ℕ, ◌+◌, ◌-◌, ◌^◌, min, Bool, false, leb, List, take, ℤ, pos, Some, None, Option, ◌==◌, int_le, nat_le}
 use Rattle.nodes.specs.Rules.{Rules}
 use Rattle.journal.specs.declared.row.Row.{Row}
 use Rattle.journal.specs.Replay.{stamp_of}

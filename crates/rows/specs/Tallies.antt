@@ -1,5 +1,5 @@
 -- The running sums of a part's rows, held to 32 bits.
-use Rattle.std.specs.Prelude.{ℕ, ℤ, ◌+ℤ◌, Some, None, Option}
+use Rattle.std.specs.Prelude.{ℤ, ◌+ℤ◌, Some, None, Option}
 use Rattle.std.specs.Int.{int_min, saturate_to_bits}
 use Rattle.std.specs.Option.{option_map}
 use Rattle.rows.specs.declared.tally.Tally.{Tally}
