@@ -57,4 +57,4 @@ returns-in-Some g c = λ must t h.
     let f = c.requires.few in
     let s = ap size same in
     let apart = grown_apart i.frames t c.args.slot c.args.item i.was (subst Apart same r.apart) (ap (uses c.args.slot) (sym same) ∙ r.spare) in
-    record { frames = i.frames; was = i.was; lists = i.lists; middle = c.insert-grown.new.nodes; rule = rebuilt c.in-Some.k (omega arith) n (c.rebuild_at.ensures must _ i.frames _ i.holds i.traced apart (omega arith)); kept = i.kept; settled = λ m al few low. settle_rebuilt i.frames c.args.slot c.args.at c.args.item c.args.allowed t i.was i.lists c.in-Some.k (omega arith) n (c.rebuild_at.ensures must _ i.frames _ i.holds i.traced apart (omega arith)) low }
+    record { frames = i.frames; was = i.was; lists = i.lists; middle = c.insert-grown.new.nodes; rule = rebuilt _ (omega arith) n (c.rebuild_at.ensures must _ i.frames _ i.holds i.traced apart (omega arith)); kept = i.kept; settled = λ m al few low. settle_rebuilt i.frames c.args.slot c.args.at c.args.item c.args.allowed t i.was i.lists _ (omega arith) n (c.rebuild_at.ensures must _ i.frames _ i.holds i.traced apart (omega arith)) low }
