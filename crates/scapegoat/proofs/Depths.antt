@@ -1,12 +1,12 @@
 -- Rebuilding at the nearest heavy ancestor brings the tree back to its depth.
-use Rattle.std.proofs.Common.{◌≡◌, ℕ, zero, suc, ◌+◌, ◌-◌, ◌*◌, ◌^◌, ◌<◌, ◌≤◌, max, Bool, true, false, List, [], ◌∷◌, ◌++◌, length, take, drop, Some, None, Option, sym, refl, ap, ◌∙◌, subst, mul_comm, mul-le-mul_left, pow_suc, arith, length-take, pow_mono}
+use Rattle.std.proofs.Common.{◌≡◌, ℕ, zero, suc, ◌+◌, ◌-◌, ◌*◌, ◌^◌, ◌<◌, ◌≤◌, max, Bool, true, false, List, [], ◌∷◌, ◌++◌, length, take, drop, Some, Option, sym, ap, ◌∙◌, pow-suc, arith, length-take, pow_mono}
 use native.Mathlib.Decide.{dec_le}
 use Rattle.nodes.specs.Tree.{Tree, leaf, branch, items, size, height}
 use Rattle.nodes.specs.declared.node.Node.{Node}
 use Rattle.nodes.specs.Holding.{Holds}
 use Rattle.nodes.proofs.Held.{size_is_length}
 use Rattle.changes.specs.Inserted.{inserted}
-use Rattle.changes.specs.Frames.{Frame, frame, fill, plug, ahead, behind}
+use Rattle.changes.specs.Frames.{Frame, frame, plug, ahead, behind}
 use Rattle.changes.proofs.Framing.{height_plug, size_plug, items_plug}
 use Rattle.changes.proofs.Growths.{size_swap}
 use Rattle.scapegoat.specs.Heavy.{size_from, Heavy, Nearest}
@@ -28,7 +28,7 @@ full (branch slot item before after) =
     let a = full after in
     let l = pow_max_left (height before) (height after) in
     let r = pow_max_right (height before) (height after) in
-    let p = pow_suc 2 (max (height before) (height after)) in
+    let p = pow-suc 2 (max (height before) (height after)) in
     omega arith
 
 -- with another part in the hole, a tree is no deeper than before or than that part makes it
@@ -58,8 +58,8 @@ rebuilt_low frames slot item new k b low long on heavy sized flat =
     let swap = size_swap (drop (suc k) frames) (branch slot item leaf leaf) leaf in
     let d = b - suc k in
     let power : 2 ^ height y ≤ 2 ^ d = pow_mono {i = height y} {j = d} (omega arith) in
-    let p = pow_suc 2 d in
-    let q = pow_suc 2 (suc d) in
+    let p = pow-suc 2 d in
+    let q = pow-suc 2 (suc d) in
     let more = size_plug (drop k frames) (branch slot item leaf leaf) in
     let some : 1 ≤ size new = omega arith in
     let h = flat some in

@@ -1,10 +1,10 @@
 -- What putting an item at a place leaves, by the rule of the nearest heavy ancestor.
-use Rattle.std.specs.Prelude.{◌≡◌, ℕ, suc, ◌+◌, ◌<◌, ◌≤◌, Bool, false, List, length, Some, None, Option, ◌≢◌}
+use Rattle.std.specs.Prelude.{◌≡◌, ℕ, suc, ◌+◌, ◌<◌, ◌≤◌, Bool, List, length, Some, None, Option, ◌≢◌}
 use Rattle.nodes.specs.declared.node.Node.{Node}
 use Rattle.nodes.specs.Tree.{Tree, leaf, branch, items, size, height, uses}
 use Rattle.std.specs.List.{slice_get}
 use Rattle.nodes.specs.Holding.{Holds}
-use Rattle.changes.specs.Frames.{Frame, plug, ahead}
+use Rattle.changes.specs.Frames.{Frame, plug}
 use Rattle.changes.specs.Inserted.{Room, inserted}
 use Rattle.balance.specs.Allowances.{part as share, whole as all, Allowance}
 use Rattle.scapegoat.specs.Heavy.{Nearest}

@@ -18,8 +18,8 @@ pub fn insert<E: Element>(
     item: E,
     allowed: usize,
 ) -> Option<usize>
-    requires { Fitting empty whole nodes.old root at slot }
-    ensures { (must : Bool) (t : Tree E) → Holds must empty whole nodes.old root t → Growth must empty whole nodes.old nodes.new at slot item allowed t result }
+    requires { Fitting E.empty E.whole nodes.old root at slot }
+    ensures { (must : Bool) (t : Tree E) → Holds must E.empty E.whole nodes.old root t → Growth must E.empty E.whole nodes.old nodes.new at slot item allowed t result }
 {
     let grown = insert_leaf::<E>(nodes, root, at, slot, item);
     if grown.path.len <= allowed {

@@ -1,4 +1,4 @@
-use Rattle.std.proofs.Common.{◌≡◌, ◌+◌, ◌<◌, ◌≤◌, sym, refl, ap, ◌∙◌, subst, arith}
+use Rattle.std.proofs.Common.{sym, refl, ap, ◌∙◌, subst, arith}
 use Rattle.nodes.specs.Tree.{leaf, branch, size, uses}
 use Rattle.nodes.proofs.Held.{unique, shaped}
 use Rattle.changes.specs.Frames.{Apart}
@@ -11,18 +11,18 @@ use Rattle.scapegoat.proofs.insert.insert.Goals as goal
 pub insert-grown-requires : goal.insert-grown-requires
 insert-grown-requires g c = c.requires.room
 
-pub nearest-heavy-requires : goal.nearest-heavy-requires
-nearest-heavy-requires g c =
+pub nearest_heavy-requires : goal.nearest_heavy-requires
+nearest_heavy-requires g c =
     let r = c.requires.room in
-    let i = c.insert-grown.ensures _ r.tree r.holds in
+    let i = (c.insert-grown.ensures _ r.tree r.holds).inserted in
     let z = grown_size i.frames r.tree c.args.slot c.args.item i.was in
     let f = c.requires.few in
     record { root = c.insert-grown.result.root; frames = i.frames; part = branch c.args.slot c.args.item leaf leaf; holds = i.holds; traced = i.traced; within = i.path; one = refl; small = omega arith }
 
-pub rebuild-at-requires : goal.rebuild-at-requires
-rebuild-at-requires g c =
+pub rebuild_at-requires : goal.rebuild_at-requires
+rebuild_at-requires g c =
     let r = c.requires.room in
-    let i = c.insert-grown.ensures _ r.tree r.holds in
+    let i = (c.insert-grown.ensures _ r.tree r.holds).inserted in
     let z = grown_size i.frames r.tree c.args.slot c.args.item i.was in
     let f = c.requires.few in
     let n = c.in-Some.ensures _ i.frames (branch c.args.slot c.args.item leaf leaf) i.holds i.traced refl in
@@ -32,14 +32,14 @@ rebuild-at-requires g c =
 
 pub returns-then-grown-allowed : goal.returns-then-grown-allowed
 returns-then-grown-allowed g c = λ must t h.
-    let i = c.insert-grown.ensures must t h in
+    let i = (c.insert-grown.ensures must t h).inserted in
     let l = frames_long i.frames c.insert-grown.result.path.steps c.insert-grown.result.path.len i.traced i.path in
     let a = c.if-grown-allowed.true in
     record { frames = i.frames; was = i.was; lists = i.lists; middle = c.insert-grown.new.nodes; rule = allowed_leaf (omega arith) i.holds; kept = i.kept; settled = λ m al few low. settle_leaf i.frames c.args.slot c.args.at c.args.item c.args.allowed t i.was i.lists (omega arith) i.holds low }
 
 pub returns-in-None : goal.returns-in-None
 returns-in-None g c = λ must t h.
-    let i = c.insert-grown.ensures must t h in
+    let i = (c.insert-grown.ensures must t h).inserted in
     let l = frames_long i.frames c.insert-grown.result.path.steps c.insert-grown.result.path.len i.traced i.path in
     let a = c.if-grown-allowed.false in
     let n = c.in-None.ensures _ i.frames (branch c.args.slot c.args.item leaf leaf) (shaped i.holds) i.traced refl in
@@ -49,7 +49,7 @@ pub returns-in-Some : goal.returns-in-Some
 returns-in-Some g c = λ must t h.
     let r = c.requires.room in
     let same = unique r.holds h in
-    let i = c.insert-grown.ensures must t h in
+    let i = (c.insert-grown.ensures must t h).inserted in
     let l = frames_long i.frames c.insert-grown.result.path.steps c.insert-grown.result.path.len i.traced i.path in
     let a = c.if-grown-allowed.false in
     let n = c.in-Some.ensures _ i.frames (branch c.args.slot c.args.item leaf leaf) (shaped i.holds) i.traced refl in
@@ -57,4 +57,4 @@ returns-in-Some g c = λ must t h.
     let f = c.requires.few in
     let s = ap size same in
     let apart = grown_apart i.frames t c.args.slot c.args.item i.was (subst Apart same r.apart) (ap (uses c.args.slot) (sym same) ∙ r.spare) in
-    record { frames = i.frames; was = i.was; lists = i.lists; middle = c.insert-grown.new.nodes; rule = rebuilt c.in-Some.k (omega arith) n (c.rebuild-at.ensures must _ i.frames _ i.holds i.traced apart (omega arith)); kept = i.kept; settled = λ m al few low. settle_rebuilt i.frames c.args.slot c.args.at c.args.item c.args.allowed t i.was i.lists c.in-Some.k (omega arith) n (c.rebuild-at.ensures must _ i.frames _ i.holds i.traced apart (omega arith)) low }
+    record { frames = i.frames; was = i.was; lists = i.lists; middle = c.insert-grown.new.nodes; rule = rebuilt _ (omega arith) n (c.rebuild_at.ensures must _ i.frames _ i.holds i.traced apart (omega arith)); kept = i.kept; settled = λ m al few low. settle_rebuilt i.frames c.args.slot c.args.at c.args.item c.args.allowed t i.was i.lists _ (omega arith) n (c.rebuild_at.ensures must _ i.frames _ i.holds i.traced apart (omega arith)) low }
