@@ -69,7 +69,7 @@ module _ {E : Type 0} where
   ahead_push_right (frame false s i o ∷ fs) slot item other = ap (λ l. items o ++ (i ∷ l)) (ahead_push_right fs slot item other) ∙ sym (append_assoc (items o) (i ∷ ahead fs) (items other ++ (item ∷ [])))
 
 -- a slot that a tree does not use is not its root's
-one_or_none : (k slot : ℕ) (r : ℕ) → cond (eqb k slot) 1 0 + r ≡ 0 → (slot ≡ k → ⊥) × (r ≡ 0)
+pub one_or_none : (k slot : ℕ) (r : ℕ) → cond (eqb k slot) 1 0 + r ≡ 0 → (slot ≡ k → ⊥) × (r ≡ 0)
 one_or_none k slot r e = ((λ d. not_root d), omega arith)
   where
     not_root : slot ≡ k → ⊥

@@ -1,14 +1,14 @@
 -- Sizes along a way.
-use Rattle.std.proofs.Common.{◌≡◌, ℕ, zero, suc, ◌+◌, ◌-◌, ◌*◌, ◌^◌, ◌<◌, ◌≤◌, max, Bool, true, false, List, [], ◌∷◌, length, take, drop, Some, None, Option, sym, refl, ap, ◌∙◌, subst, mul-le-mul_right, mul_assoc, mul_comm, mul-le-mul_left, pow_suc, mul-one, mul_right_comm, arith, length-take}
+use Rattle.std.proofs.Common.{◌≡◌, ℕ, zero, suc, ◌-◌, ◌*◌, ◌^◌, ◌<◌, ◌≤◌, max, true, false, List, [], ◌∷◌, length, take, Some, Option, sym, refl, ap, ◌∙◌, subst, mul-le-mul_right, mul_assoc, mul_comm, mul-le-mul_left, pow-suc, mul-one, mul_right_comm, arith, length-take}
 use native.Mathlib.Nat.{pow-zero}
 use native.Mathlib.Decide.{dec_lt}
 use Rattle.nodes.specs.declared.node.Node.{Node}
-use Rattle.nodes.specs.Tree.{Tree, leaf, branch, size}
+use Rattle.nodes.specs.Tree.{Tree, size}
 use Rattle.std.specs.List.{slice_get}
 use Rattle.nodes.specs.Holding.{Holds, part}
 use Rattle.changes.specs.declared.path.Step.{Step}
-use Rattle.changes.specs.Frames.{Frame, frame, step_of, steps_of, fill, plug}
-use Rattle.changes.proofs.Framing.{steps_length, size_plug}
+use Rattle.changes.specs.Frames.{Frame, frame, steps_of, plug}
+use Rattle.changes.proofs.Framing.{steps_length}
 use Rattle.changes.proofs.Descents.{not_less}
 use Rattle.changes.proofs.Grafts.{nth_take}
 use Rattle.upkeep.specs.Allowances.{Allowance}
@@ -41,11 +41,11 @@ light a b (f ∷ fs) t none =
     let s = size (plug fs t) in
     let ih : b ^ n * size t ≤ a ^ n * s = light a b fs t (λ k h. none (suc k) (omega arith)) in
     let here : s * b ≤ S * a = not_less (none 0 (omega arith)) in
-    let one : b ^ suc n * size t ≡ b ^ n * size t * b = ap (λ x. x * size t) (pow_suc b n) ∙ mul_right_comm (b ^ n) b (size t) in
+    let one : b ^ suc n * size t ≡ b ^ n * size t * b = ap (λ x. x * size t) (pow-suc b n) ∙ mul_right_comm (b ^ n) b (size t) in
     let two : b ^ n * size t * b ≤ a ^ n * s * b = mul-le-mul_right b ih in
     let three : a ^ n * s * b ≡ a ^ n * (s * b) = mul_assoc (a ^ n) s b in
     let four : a ^ n * (s * b) ≤ a ^ n * (S * a) = mul-le-mul_left (a ^ n) here in
-    let five : a ^ suc n * S ≡ a ^ n * (S * a) = ap (λ x. x * S) (pow_suc a n) ∙ mul_assoc (a ^ n) a S ∙ ap (λ x. a ^ n * x) (mul_comm a S) in
+    let five : a ^ suc n * S ≡ a ^ n * (S * a) = ap (λ x. x * S) (pow-suc a n) ∙ mul_assoc (a ^ n) a S ∙ ap (λ x. a ^ n * x) (mul_comm a S) in
     omega arith
 
 pub short : {E : Type 0} (a b m d : ℕ) (frames : List (Frame E)) (t : Tree E) → Allowance a b m d → size (plug frames t) ≤ m → size t ≡ 1 → ((k : ℕ) → k < length frames → Heavy a b k frames t → ⊥) → length frames ≤ d

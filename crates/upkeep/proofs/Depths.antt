@@ -1,10 +1,10 @@
 -- Rebuilding at the nearest heavy ancestor brings the tree back to its depth.
-use Rattle.std.proofs.Common.{◌≡◌, ℕ, zero, suc, ◌+◌, ◌-◌, ◌*◌, ◌^◌, ◌<◌, ◌≤◌, max, Bool, true, false, cond, eqb, List, [], ◌∷◌, ◌++◌, length, take, drop, sym, refl, ap, ◌∙◌, subst, mul_comm, mul-le-mul_left, pow_suc, arith, length-take, pow_mono}
+use Rattle.std.proofs.Common.{◌≡◌, ℕ, zero, suc, ◌+◌, ◌-◌, ◌*◌, ◌^◌, ◌<◌, ◌≤◌, max, true, false, cond, eqb, List, [], ◌∷◌, ◌++◌, length, take, drop, sym, ap, ◌∙◌, subst, pow-suc, arith, length-take, pow_mono}
 use Rattle.std.proofs.lemmas.Bool.Decides.{nat_tests}
 use native.Mathlib.Decide.{dec_le}
 use Rattle.nodes.specs.Tree.{Tree, leaf, branch, items, slots, size, height, uses}
 use Rattle.nodes.proofs.Held.{size_is_length, height_size}
-use Rattle.changes.specs.Frames.{Frame, frame, fill, plug, ahead, behind}
+use Rattle.changes.specs.Frames.{Frame, frame, plug, ahead, behind}
 use Rattle.changes.specs.Chains.{count}
 use Rattle.changes.proofs.Framing.{height_plug, size_plug, items_plug, uses_plug}
 use Rattle.changes.proofs.Growths.{size_swap, uses_swap}
@@ -29,7 +29,7 @@ full (branch slot item before after) =
     let a = full after in
     let l = pow_max_left (height before) (height after) in
     let r = pow_max_right (height before) (height after) in
-    let p = pow_suc 2 (max (height before) (height after)) in
+    let p = pow-suc 2 (max (height before) (height after)) in
     omega arith
 
 -- with another part in the hole, a tree is no deeper than before or than that part makes it
@@ -60,8 +60,8 @@ rebuilt_low a b ratio frames slot item new k top low long on heavy sized flat =
     let half = more_than_half a b (size_from k frames (branch slot item leaf leaf)) (size_from (suc k) frames (branch slot item leaf leaf)) ratio heavy in
     let d = top - suc k in
     let power : 2 ^ height y ≤ 2 ^ d = pow_mono {i = height y} {j = d} (omega arith) in
-    let p = pow_suc 2 d in
-    let q = pow_suc 2 (suc d) in
+    let p = pow-suc 2 d in
+    let q = pow-suc 2 (suc d) in
     let more = size_plug (drop k frames) (branch slot item leaf leaf) in
     let some : 1 ≤ size new = omega arith in
     let h = flat some in

@@ -1,5 +1,5 @@
 -- A way cut at a place: what is above stays, what is below is a part of its own.
-use Rattle.std.proofs.Common.{◌≡◌, ℕ, zero, suc, ◌+◌, ◌-◌, ◌^◌, ◌<◌, ◌≤◌, Bool, true, false, cond, eqb, List, [], ◌∷◌, ◌++◌, length, take, drop, Some, None, Option, sym, refl, ap, ◌∙◌, subst, arith}
+use Rattle.std.proofs.Common.{◌≡◌, ℕ, zero, suc, ◌+◌, ◌≤◌, Bool, true, false, cond, eqb, List, [], ◌∷◌, length, take, drop, Some, Option, sym, refl, ap, ◌∙◌, subst, arith}
 use Rattle.std.proofs.lemmas.Bool.Decides.{nat_tests}
 use Rattle.nodes.specs.declared.node.Node.{Node}
 use Rattle.nodes.specs.Tree.{Tree, leaf, branch, items, slots, size, uses}
@@ -7,7 +7,7 @@ use Rattle.std.specs.List.{slice_get}
 use Rattle.nodes.specs.Holding.{Holds, nothing, part}
 use Rattle.nodes.proofs.Held.{shaped}
 use Rattle.changes.specs.declared.path.Step.{Step}
-use Rattle.changes.specs.Frames.{Frame, frame, step_of, steps_of, fill, plug, frame_uses, toward, beside, Around, here, inside, Apart}
+use Rattle.changes.specs.Frames.{Frame, frame, step_of, steps_of, fill, plug, frame_uses, Around, here, inside, Apart}
 use Rattle.changes.specs.Grafted.{Graft}
 use Rattle.changes.specs.Chains.{count}
 use Rattle.changes.proofs.Framing.{uses_plug}

@@ -1,12 +1,12 @@
 -- Once a depth is out of reach, every greater one is.
-use Rattle.std.proofs.Common.{◌≡◌, ℕ, zero, suc, ◌+◌, ◌-◌, ◌*◌, ◌^◌, ◌<◌, ◌≤◌, max, sym, refl, ap, ◌∙◌, subst, mul-le-mul_right, mul_assoc, suc-mul, mul_comm, mul-le-mul_left, pow_suc, mul_right_comm, arith, lit<}
-use native.Mathlib.Nat.{pow-le-pow_right, pow-le-pow_left, pow-zero}
+use Rattle.std.proofs.Common.{◌≡◌, ℕ, zero, suc, ◌+◌, ◌-◌, ◌*◌, ◌^◌, ◌<◌, ◌≤◌, max, sym, ap, ◌∙◌, subst, mul-le-mul_right, mul_assoc, suc-mul, mul_comm, mul-le-mul_left, pow-suc, mul_right_comm, arith, lit<}
+use native.Mathlib.Nat.{pow-le-pow_left, pow-zero}
 use native.Mathlib.Decide.{dec_lt, dec_le}
 use Rattle.upkeep.specs.Allowances.{part, whole, most_items, Reaches, Allowance}
 
 -- one deeper, both sides of the test grow by the ratio
 pub next_sides : (a m d : ℕ) → a ^ suc d * m ≡ a ^ d * m * a
-next_sides a m d = ap (λ n. n * m) (pow_suc a d) ∙ mul_right_comm (a ^ d) a m
+next_sides a m d = ap (λ n. n * m) (pow-suc a d) ∙ mul_right_comm (a ^ d) a m
 
 grows : (a b x y : ℕ) → a ≤ b → 1 ≤ b → x < y → x * a < y * b
 grows a b x y h p l =
@@ -20,7 +20,7 @@ module _ (a b m k : ℕ) (ratio : a ≤ b) (some : 1 ≤ b) (out : a ^ k * m < b
   out_by zero = rw (let e : 0 + k ≡ k = omega arith in e) out
   out_by (suc j) =
       let e : suc j + k ≡ suc (j + k) = omega arith in
-      rw e (rw (next_sides a m (j + k), pow_suc b (j + k)) (grows a b (a ^ (j + k) * m) (b ^ (j + k)) ratio some (out_by j)))
+      rw e (rw (next_sides a m (j + k), pow-suc b (j + k)) (grows a b (a ^ (j + k) * m) (b ^ (j + k)) ratio some (out_by j)))
 
   -- so what is reached is less deep
   pub out_of_reach : (e : ℕ) → b ^ e ≤ a ^ e * m → e < k
@@ -57,20 +57,20 @@ allowance_one a b m d e x y =
 pow_double : (a e : ℕ) → (2 * a) ^ e ≡ a ^ e * 2 ^ e
 pow_double a zero = pow-zero (2 * a) ∙ sym (ap (λ n. n * 1) (pow-zero a))
 pow_double a (suc e) =
-    pow_suc (2 * a) e
+    pow-suc (2 * a) e
     ∙ ap (λ n. n * (2 * a)) (pow_double a e)
     ∙ ap (λ n. a ^ e * 2 ^ e * n) (mul_comm 2 a)
     ∙ sym (mul_assoc (a ^ e * 2 ^ e) a 2)
     ∙ ap (λ n. n * 2) (mul_right_comm (a ^ e) (2 ^ e) a)
     ∙ mul_assoc (a ^ e * a) (2 ^ e) 2
-    ∙ ap (λ n. n * (2 ^ e * 2)) (sym (pow_suc a e))
-    ∙ ap (λ n. a ^ suc e * n) (sym (pow_suc 2 e))
+    ∙ ap (λ n. n * (2 ^ e * 2)) (sym (pow-suc a e))
+    ∙ ap (λ n. a ^ suc e * n) (sym (pow-suc 2 e))
 
 -- where a ratio is at least a half, as many levels as halving gives are allowed
 pub halves_allowed : (a b n d h : ℕ) → b ≤ 2 * a → 2 ^ h ≤ 2 * n → Allowance a b n d → h ≤ suc d
 halves_allowed a b n d zero ratio low al = omega arith
 halves_allowed a b n d (suc e) ratio low al =
-    let p = pow_suc 2 e in
+    let p = pow-suc 2 e in
     let one : b ^ e ≤ (2 * a) ^ e = pow-le-pow_left ratio e in
     let two : (2 * a) ^ e ≡ a ^ e * 2 ^ e = pow_double a e in
     let three : a ^ e * 2 ^ e ≤ a ^ e * max 1 n = mul-le-mul_left (a ^ e) (let l : 2 ^ e ≤ max 1 n = omega arith in l) in

@@ -1,5 +1,5 @@
 -- What putting an item at a place leaves, by the rule of the nearest heavy ancestor.
-use Rattle.std.specs.Prelude.{◌≡◌, ℕ, suc, ◌+◌, ◌<◌, ◌≤◌, Bool, true, false, cond, List, length, take, drop, Some, Option, ◌==◌}
+use Rattle.std.specs.Prelude.{◌≡◌, ℕ, suc, ◌+◌, ◌<◌, ◌≤◌, Bool, false, cond, List, length, take, drop, Some, Option, ◌==◌}
 use Rattle.std.specs.List.{insert, slice_get}
 use Rattle.nodes.specs.declared.node.Node.{Node}
 use Rattle.nodes.specs.Tree.{Tree, leaf, branch, items, size, height, uses}

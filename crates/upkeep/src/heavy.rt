@@ -14,8 +14,8 @@ use rebuild::rebuild;
 
 // Gives the part at a place of a path the balanced shape, and mends the way above it.
 pub fn rebuild_at<E: Element>(nodes: &mut [Node<E, E::Sum>], path: &Path, k: usize) -> Option<usize>
-    requires { Renewable empty whole nodes.old path.now.steps path.now.len k }
-    ensures { (must : Bool) (root : Option ℕ) (frames : List (Frame E)) (part : Tree E) → Holds must empty whole nodes.old root (plug frames part) → steps_of frames ≡ trace path.now.steps path.now.len → Apart (plug frames part) → size (plug frames part) ≤ 4096 → Renewed must empty whole nodes.old nodes.new frames part k result }
+    requires { Renewable E.empty E.whole nodes.old path.now.steps path.now.len k }
+    ensures { (must : Bool) (root : Option ℕ) (frames : List (Frame E)) (part : Tree E) → Holds must E.empty E.whole nodes.old root (plug frames part) → steps_of frames ≡ trace path.now.steps path.now.len → Apart (plug frames part) → size (plug frames part) ≤ 4096 → Renewed must E.empty E.whole nodes.old nodes.new frames part k result }
 {
     let step = read_at(&path.steps, k);
     let link = rebuild::<E>(nodes, Some(step.slot));

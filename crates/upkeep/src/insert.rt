@@ -21,8 +21,8 @@ pub fn insert<E: Element>(
     item: E,
     m: usize,
 ) -> Balanced
-    requires { Fitting empty whole nodes.old root at slot m }
-    ensures { (must : Bool) (t : Tree E) → Holds must empty whole nodes.old root t → Growth must empty whole nodes.old nodes.new at slot m item t result }
+    requires { Fitting E.empty E.whole nodes.old root at slot m }
+    ensures { (must : Bool) (t : Tree E) → Holds must E.empty E.whole nodes.old root t → Growth must E.empty E.whole nodes.old nodes.new at slot m item t result }
 {
     let allowed = allowance(m);
     let grown = insert_leaf::<E>(nodes, root, at, slot, item);

@@ -1,4 +1,7 @@
 // Which ancestor of a node that lies too deep is to be rebuilt.
+
+#![tactic(auto)]
+
 pub mod balanced;
 pub mod depth;
 pub mod heavy;
@@ -21,8 +24,8 @@ use nodes::{Element, Node};
 
 // The place on the path of the nearest ancestor of the new node at its end that has a child on the path with more than its share.
 pub fn nearest_heavy<E: Element>(nodes: &[Node<E, E::Sum>], path: &Path) -> Option<usize>
-    requires { Climbable empty whole nodes.now path.now.steps path.now.len }
-    ensures { (root : Option ℕ) (frames : List (Frame E)) (part : Tree E) → Holds false empty whole nodes.now root (plug frames part) → steps_of frames ≡ trace path.now.steps path.now.len → size part ≡ 1 → Nearest share all frames part result }
+    requires { Climbable E.empty E.whole nodes.now path.now.steps path.now.len }
+    ensures { (root : Option ℕ) (frames : List (Frame E)) (part : Tree E) → Holds false E.empty E.whole nodes.now root (plug frames part) → steps_of frames ≡ trace path.now.steps path.now.len → size part ≡ 1 → Nearest share all frames part result }
 {
     let mut child = 1;
     let mut k = path.len;

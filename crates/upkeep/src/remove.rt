@@ -18,8 +18,8 @@ pub fn remove<E: Element>(
     at: usize,
     m: usize,
 ) -> Option<Shrunk<E>>
-    requires { Shrinkable empty whole nodes.old root m }
-    ensures { (must : Bool) (t : Tree E) → Holds must empty whole nodes.old root t → Loses must empty whole nodes.old nodes.new at m t result }
+    requires { Shrinkable E.empty E.whole nodes.old root m }
+    ensures { (must : Bool) (t : Tree E) → Holds must E.empty E.whole nodes.old root t → Loses must E.empty E.whole nodes.old nodes.new at m t result }
 {
     let Some(out) = take_out::<E>(nodes, root, at) else {
         return None;

@@ -1,5 +1,5 @@
-use Rattle.std.proofs.Common.{◌≡◌, ◌+◌, ◌<◌, ◌≤◌, min, take, sym, refl, ap, ◌∙◌, subst, arith}
-use Rattle.nodes.specs.Tree.{leaf, branch, items, size, uses}
+use Rattle.std.proofs.Common.{◌≡◌, min, take, sym, refl, ap, ◌∙◌, subst, arith}
+use Rattle.nodes.specs.Tree.{leaf, branch, size, uses}
 use Rattle.nodes.proofs.Held.{unique, shaped}
 use Rattle.changes.specs.Frames.{Apart, plug}
 use Rattle.changes.proofs.Framing.{one_or_none}
@@ -13,19 +13,21 @@ use Rattle.upkeep.proofs.insert.insert.Goals as goal
 pub insert-grown-requires : goal.insert-grown-requires
 insert-grown-requires g c = c.requires.room
 
-pub nearest-heavy-requires : goal.nearest-heavy-requires
-nearest-heavy-requires g c =
+pub nearest_heavy-requires : goal.nearest_heavy-requires
+nearest_heavy-requires g c =
     let r = c.requires.room in
-    let i = c.insert-grown.ensures _ r.tree r.holds in
+    let there = c.insert-grown.ensures _ r.tree r.holds in
+    let i = there.inserted in
     let z = grown_size i.frames r.tree c.args.slot c.args.item i.was in
     let f = c.requires.few in
     let n = c.requires.more in
     record { root = c.insert-grown.result.root; frames = i.frames; part = branch c.args.slot c.args.item leaf leaf; holds = i.holds; traced = i.traced; within = i.path; one = refl; small = omega arith }
 
-pub rebuild-at-requires : goal.rebuild-at-requires
-rebuild-at-requires g c =
+pub rebuild_at-requires : goal.rebuild_at-requires
+rebuild_at-requires g c =
     let r = c.requires.room in
-    let i = c.insert-grown.ensures _ r.tree r.holds in
+    let there = c.insert-grown.ensures _ r.tree r.holds in
+    let i = there.inserted in
     let z = grown_size i.frames r.tree c.args.slot c.args.item i.was in
     let f = c.requires.few in
     let m = c.requires.more in
@@ -38,7 +40,8 @@ pub returns-then-grown-allowed : goal.returns-then-grown-allowed
 returns-then-grown-allowed g c = λ must t h.
     let r = c.requires.room in
     let same = unique r.holds h in
-    let i = c.insert-grown.ensures must t h in
+    let there = c.insert-grown.ensures must t h in
+    let i = there.inserted in
     let l = frames_long i.frames c.insert-grown.result.path.steps c.insert-grown.result.path.len i.traced i.path in
     let a = c.if-grown-allowed.true in
     let few = c.requires.few in
@@ -48,7 +51,7 @@ returns-then-grown-allowed g c = λ must t h.
     record {
       new = plug i.frames (branch c.args.slot c.args.item leaf leaf);
       holds = i.holds;
-      grows = added _ i.frames al i.was i.gap (omega arith);
+      grows = added _ i.frames al i.was there.gap (omega arith);
       lists = i.lists;
       used = leaf_used i.frames c.args.slot c.args.item t i.was;
       low = leaf_within share all c.args.m _ al i.frames c.args.slot c.args.item t i.was low (omega arith);
@@ -62,7 +65,8 @@ pub returns-in-None : goal.returns-in-None
 returns-in-None g c = λ must t h.
     let r = c.requires.room in
     let same = unique r.holds h in
-    let i = c.insert-grown.ensures must t h in
+    let there = c.insert-grown.ensures must t h in
+    let i = there.inserted in
     let l = frames_long i.frames c.insert-grown.result.path.steps c.insert-grown.result.path.len i.traced i.path in
     let a = c.if-grown-allowed.false in
     let few = c.requires.few in
@@ -79,7 +83,8 @@ pub returns-in-Some : goal.returns-in-Some
 returns-in-Some g c = λ must t h.
     let r = c.requires.room in
     let same = unique r.holds h in
-    let i = c.insert-grown.ensures must t h in
+    let there = c.insert-grown.ensures must t h in
+    let i = there.inserted in
     let l = frames_long i.frames c.insert-grown.result.path.steps c.insert-grown.result.path.len i.traced i.path in
     let a = c.if-grown-allowed.false in
     let few = c.requires.few in
@@ -93,11 +98,11 @@ returns-in-Some g c = λ must t h.
     let k = c.in-Some.k in
     let n = c.in-Some.ensures _ i.frames (branch c.args.slot c.args.item leaf leaf) (shaped i.holds) i.traced refl in
     let apart = grown_apart i.frames t c.args.slot c.args.item i.was (subst Apart same r.apart) (ap (uses c.args.slot) (sym same) ∙ r.spare) in
-    let new = c.rebuild-at.ensures must _ i.frames (branch c.args.slot c.args.item leaf leaf) i.holds i.traced apart (omega arith) in
+    let new = c.rebuild_at.ensures must _ i.frames (branch c.args.slot c.args.item leaf leaf) i.holds i.traced apart (omega arith) in
     record {
       new = plug (take k i.frames) new.new;
       holds = new.holds;
-      grows = rebuilt _ i.frames k new.new al i.was i.gap (omega arith) n new.even new.items_are;
+      grows = rebuilt _ i.frames k new.new al i.was there.gap (omega arith) n new.even new.items_are;
       lists = part_lists i.frames k new-leaf new.new new.items_are ∙ i.lists;
       used = λ j. part_used i.frames k new-leaf new.new new.slots_are j ∙ leaf_used i.frames c.args.slot c.args.item t i.was j;
       low = part_within share all c.args.m _ al i.frames c.args.slot c.args.item t i.was low (omega arith) (omega arith) k new.new n.0 n.1 (part_sized i.frames k new-leaf new.new new.items_are) new.low;

@@ -1,6 +1,6 @@
-use Rattle.std.proofs.Common.{◌≡◌, ℕ, ◌+◌, ◌*◌, ◌<◌, ◌≤◌, false, length, sym, refl, ap, ◌∙◌, subst, arith}
-use Rattle.nodes.specs.Tree.{items, slots, size, height, uses}
-use Rattle.nodes.proofs.Held.{unique, shaped, stored_right, size_is_length}
+use Rattle.std.proofs.Common.{◌≡◌, ℕ, false, length, sym, ap, ◌∙◌, subst, arith}
+use Rattle.nodes.specs.Tree.{size}
+use Rattle.nodes.proofs.Held.{unique, shaped, size_is_length}
 use Rattle.changes.specs.Chains.{count}
 use Rattle.rebuild.proofs.Ranges.{uses_count}
 use Rattle.upkeep.specs.Allowances.{part as share, whole as all}
@@ -13,22 +13,22 @@ use Rattle.upkeep.proofs.remove.remove.Goals as goal
 pub remove-requires : goal.remove-requires
 remove-requires g c = c.requires.sound
 
-pub size-of-left-requires : goal.size-of-left-requires
-size-of-left-requires g c =
+pub size_of-left-requires : goal.size_of-left-requires
+size_of-left-requires g c =
     let o = c.in-Some.ensures false c.requires.sound.tree c.requires.sound.holds in
     record { tree = o.new; holds = o.holds }
 
-pub overflow-mul-left : goal.overflow-mul-left
-overflow-mul-left g c =
+pub overflow_mul-left : goal.overflow_mul-left
+overflow_mul-left g c =
     let o = c.in-Some.ensures false c.requires.sound.tree c.requires.sound.holds in
-    let s = c.size-of-left.ensures o.new o.holds in
+    let s = c.size_of-left.ensures o.new o.holds in
     let z = o.sized in
     let l = c.requires.less in
     let f = c.requires.few in
     omega arith
 
-pub overflow-mul-m : goal.overflow-mul-m
-overflow-mul-m g c = let f = c.requires.few in omega arith
+pub overflow_mul-m : goal.overflow_mul-m
+overflow_mul-m g c = let f = c.requires.few in omega arith
 
 pub rebuild-root-requires : goal.rebuild-root-requires
 rebuild-root-requires g c =
@@ -41,7 +41,7 @@ rebuild-root-requires g c =
 pub returns-then-left-m : goal.returns-then-left-m
 returns-then-left-m g c = λ must t h.
     let o = c.in-Some.ensures must t h in
-    let s = c.size-of-left.ensures o.new (shaped o.holds) in
+    let s = c.size_of-left.ensures o.new (shaped o.holds) in
     let r = c.rebuild-root.ensures o.new (shaped o.holds) in
     let taken = c.if-left-m.true in
     let same : size r.tree ≡ size o.new = sym (size_is_length r.tree) ∙ ap length r.items_are ∙ size_is_length o.new in
@@ -60,7 +60,7 @@ returns-then-left-m g c = λ must t h.
 pub returns : goal.returns
 returns g c = λ must t h.
     let o = c.in-Some.ensures must t h in
-    let s = c.size-of-left.ensures o.new (shaped o.holds) in
+    let s = c.size_of-left.ensures o.new (shaped o.holds) in
     let left = c.if-left-m.false in
     let same = unique c.requires.sound.holds h in
     let low = subst (λ u. Within share all c.args.m u) same c.requires.low in
