@@ -1,5 +1,5 @@
 -- A node that is reached lies as deep as its way is long.
-use Rattle.std.proofs.Common.{◌≡◌, ℕ, suc, ◌+◌, ◌≤◌, Bool, false, List, Some, Option, sym, refl, ap, ◌∙◌, arith}
+use Rattle.std.proofs.Common.{ℕ, ◌≤◌, Bool, false, List, Some, Option, ap, arith}
 use Rattle.nodes.specs.declared.node.Node.{Node}
 use Rattle.nodes.specs.Tree.{Tree, height}
 use Rattle.nodes.specs.Holding.{Holds, part}

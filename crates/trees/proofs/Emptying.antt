@@ -1,11 +1,11 @@
 -- A slice whose slots are all free holds an empty tree.
-use Rattle.std.proofs.Common.{◌≡◌, ℕ, ◌+◌, ◌≤◌, true, List, [], length, None, Option, sym, refl, ap, ◌∙◌, subst, arith}
+use Rattle.std.proofs.Common.{ℕ, true, List, None, Option, sym, refl, ap, subst, arith}
 use Rattle.nodes.specs.declared.node.Node.{Node}
-use Rattle.nodes.specs.Tree.{Tree, leaf, items}
+use Rattle.nodes.specs.Tree.{leaf, items}
 use Rattle.nodes.specs.Holding.{Holds, nothing}
 use Rattle.changes.specs.Chains.{AllFree}
 use Rattle.trees.specs.declared.links.Links.{Links}
-use Rattle.trees.specs.Structures.{tree_of, Laid}
+use Rattle.trees.specs.Structures.{Laid}
 use Rattle.trees.specs.Operations.{Emptied}
 use Rattle.trees.proofs.Reading.{tree_read}
 

@@ -1,7 +1,7 @@
 -- An item more: the new tree lies in the slice again.
-use Rattle.std.proofs.Common.{◌≡◌, ℕ, zero, suc, ◌+◌, ◌<◌, ◌≤◌, min, max, Bool, true, false, cond, eqb, List, [], ◌∷◌, length, Some, None, Ok, Err, Option, sym, refl, ap, ◌∙◌, subst, add-one, arith}
+use Rattle.std.proofs.Common.{◌≡◌, ℕ, zero, suc, ◌+◌, ◌<◌, ◌≤◌, min, max, Bool, true, false, cond, eqb, List, ◌∷◌, length, Some, Ok, sym, refl, ap, ◌∙◌, subst, add-one, arith}
 use Rattle.std.proofs.lemmas.List.Edits.{length-insert}
-use Rattle.std.specs.List.{insert, slice_get}
+use Rattle.std.specs.List.{slice_get}
 use Rattle.nodes.specs.declared.node.Node.{Node}
 use Rattle.nodes.specs.Tree.{Tree, items, size, height, uses}
 use Rattle.nodes.specs.Holding.{Holds}
@@ -9,15 +9,15 @@ use Rattle.nodes.proofs.Nths.{nth_within}
 use Rattle.nodes.proofs.Held.{size_is_length, unique}
 use Rattle.changes.specs.Chains.{Chain, count}
 use Rattle.changes.proofs.Chaining.{chain_kept}
-use Rattle.upkeep.specs.Allowances.{part as share, whole as all, most_items, Allowance}
+use Rattle.upkeep.specs.Allowances.{part as share, whole as all, most_items}
 use Rattle.upkeep.proofs.Sides.{allowance_there, allowance_grows}
 use Rattle.changes.proofs.Grafts.{own}
 use Rattle.upkeep.specs.declared.balanced.Balanced.{Balanced}
 use Rattle.upkeep.specs.Growth.{Within, Grows, Fitting, Growth}
 use Rattle.trees.specs.declared.links.Links.{Links}
-use Rattle.trees.specs.Structures.{tree_of, listed, capacity_of, Right, Laid, Structure, Structured}
-use Rattle.trees.specs.Operations.{insert_rule, done, later, Growing, Changed, Inserts}
-use Rattle.trees.proofs.Reading.{spare_of, chain_node, tree_read, laid, counted_by, any_sums}
+use Rattle.trees.specs.Structures.{tree_of, listed, capacity_of, Laid, Structured}
+use Rattle.trees.specs.Operations.{done, later, Inserts}
+use Rattle.trees.proofs.Reading.{chain_node, tree_read, laid, counted_by, any_sums}
 use Rattle.trees.proofs.Rules.{rule_accepts}
 
 -- a tree within its allowance is low enough for a path

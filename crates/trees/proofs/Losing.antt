@@ -1,5 +1,5 @@
 -- An item fewer, or another item: the new tree lies in the slice again.
-use Rattle.std.proofs.Common.{◌≡◌, ℕ, zero, suc, ◌+◌, ◌-◌, ◌<◌, ◌≤◌, min, max, Bool, true, false, cond, eqb, List, [], ◌∷◌, ◌++◌, length, take, drop, set, Some, None, Option, sym, refl, ap, ◌∙◌, subst, append-nil, arith}
+use Rattle.std.proofs.Common.{◌≡◌, ℕ, zero, suc, ◌+◌, ◌-◌, ◌<◌, ◌≤◌, min, Bool, true, false, cond, eqb, List, [], ◌∷◌, length, set, Some, None, Option, sym, refl, ap, ◌∙◌, subst, arith}
 use native.Mathlib.Decide.{dec_lt}
 use Rattle.std.proofs.lemmas.Bool.Decides.{nat_tests}
 use Rattle.std.proofs.lemmas.List.Edits.{length-remove}
@@ -22,9 +22,9 @@ use Rattle.upkeep.specs.Growth.{Within}
 use Rattle.upkeep.specs.Loss.{Shrinks, Shrinkable, Loss}
 use Rattle.upkeep.proofs.Renewals.{held_same}
 use Rattle.trees.specs.declared.links.Links.{Links}
-use Rattle.trees.specs.Structures.{tree_of, listed, capacity_of, Right, Laid, Structured}
-use Rattle.trees.specs.Operations.{Shrinking, Changed, Removes, Replaces}
-use Rattle.trees.proofs.Reading.{spare_of, tree_read, laid, counted_by, any_sums}
+use Rattle.trees.specs.Structures.{tree_of, listed, Laid, Structured}
+use Rattle.trees.specs.Operations.{Removes, Replaces}
+use Rattle.trees.proofs.Reading.{spare_of, tree_read, laid, any_sums}
 use Rattle.trees.proofs.Rules.{unchanged}
 use Rattle.trees.proofs.Growing.{low_enough}
 

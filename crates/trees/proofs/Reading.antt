@@ -1,11 +1,11 @@
 -- The structure of a tree, as its slice tells it.
-use Rattle.std.proofs.Common.{◌≡◌, ℕ, zero, suc, ◌+◌, ◌<◌, ◌≤◌, Bool, true, false, List, [], ◌∷◌, length, Some, None, Option, sym, refl, ap, ◌∙◌, subst, arith}
+use Rattle.std.proofs.Common.{◌≡◌, ℕ, zero, suc, ◌+◌, ◌<◌, ◌≤◌, false, List, [], ◌∷◌, length, Some, None, Option, refl, ap, ◌∙◌, subst, arith}
 use mathlib.Core.Logic.{∥∥₁_elim, ∥∥₁_map}
 use native.Mathlib.Bridge.{le_prop}
 use native.Mathlib.Nat.{ℕ_set}
 use Rattle.std.specs.List.{slice_get}
 use Rattle.nodes.specs.declared.node.Node.{Node}
-use Rattle.nodes.specs.Tree.{Tree, leaf, branch, items, size, height, uses}
+use Rattle.nodes.specs.Tree.{Tree, size, height, uses}
 use Rattle.nodes.specs.Holding.{Holds, nothing, part, Shaped, tree_at, grown}
 use Rattle.nodes.proofs.Nths.{nth_within}
 use Rattle.nodes.proofs.Held.{opened, read_back, height_size, size_is_length}

@@ -1,5 +1,5 @@
 -- What each operation does to the list, and to the tree.
-use Rattle.std.specs.Prelude.{◌≡◌, ℕ, suc, ◌≤◌, max, Bool, cond, List, [], length, Some, None, Ok, Err, Option, Result, nat_le, nat_lt, slice_set}
+use Rattle.std.specs.Prelude.{◌≡◌, ℕ, suc, max, Bool, cond, List, [], length, Some, None, Ok, Err, Option, Result, nat_le, nat_lt, slice_set}
 use Rattle.std.specs.List.{insert, remove, slice_get}
 use Rattle.nodes.specs.declared.node.Node.{Node}
 use Rattle.nodes.specs.Tree.{Tree}

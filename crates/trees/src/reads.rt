@@ -57,7 +57,7 @@ pub fn first_hit<E: Element, P: Probe<E, E::Sum>>(
     from: usize,
 ) -> Option<usize>
     requires { Structured nodes.now links }
-    ensures { Right E.empty E.whole nodes.now links → Lawful E.empty E.whole P.rules start (listed nodes.now links) → result ≡ first_in rules (passed P.rules start (take from (listed nodes.now links))) from (drop from (listed nodes.now links)) }
+    ensures { Right E.empty E.whole nodes.now links → Lawful E.empty E.whole P.rules start (listed nodes.now links) → result ≡ first_in P.rules (passed P.rules start (take from (listed nodes.now links))) from (drop from (listed nodes.now links)) }
 {
     nodes::first_hit::<E, P>(nodes, links.root, start, from)
 }

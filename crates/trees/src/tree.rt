@@ -91,7 +91,7 @@ impl<'a, E: Element> Tree<'a, E> {
     // The first place from `from` on at which the probe hits, where `start` has passed nothing.
     pub fn first_hit<P: Probe<E, E::Sum>>(&self, start: P, from: usize) -> Option<usize>
         requires { Structured self.now.nodes.now self.now.links }
-        ensures { Right E.empty E.whole self.now.nodes.now self.now.links → Lawful E.empty E.whole P.rules start (listed self.now.nodes.now self.now.links) → result ≡ first_in rules (passed P.rules start (take from (listed self.now.nodes.now self.now.links))) from (drop from (listed self.now.nodes.now self.now.links)) }
+        ensures { Right E.empty E.whole self.now.nodes.now self.now.links → Lawful E.empty E.whole P.rules start (listed self.now.nodes.now self.now.links) → result ≡ first_in P.rules (passed P.rules start (take from (listed self.now.nodes.now self.now.links))) from (drop from (listed self.now.nodes.now self.now.links)) }
     {
         reads::first_hit::<E, P>(self.nodes, self.links, start, from)
     }

@@ -1,4 +1,4 @@
-use Rattle.std.proofs.Common.{◌≡◌, ℕ, ◌+◌, ◌<◌, ◌≤◌, min, max, cond, length, sym, refl, ap, ◌∙◌, subst, arith}
+use Rattle.std.proofs.Common.{◌+◌, cond, length, sym, ap, arith}
 use Rattle.trees.specs.declared.refusal.TreeRefusal.TheVariants.{NoPlace, Full}
 use Rattle.trees.specs.Structures.{listed, capacity_of}
 use Rattle.trees.proofs.Reading.{laid, counted_by, chain_none, chain_within}
@@ -25,15 +25,15 @@ returns-then-links-ge-MOST_ITEMS g c =
     let t = c.if-links-ge-MOST_ITEMS.true in
     insert_refused e.empty e.whole nodes links c.requires c.args.place c.args.item Full (rule_full (capacity_of nodes) (listed nodes links) c.args.place c.args.item (omega arith) (omega arith))
 
-pub returns-in-default : goal.returns-in-default
-returns-in-default g c =
+pub returns-in_default : goal.returns-in_default
+returns-in_default g c =
     let e = g.E.Element in
     let nodes = c.args.nodes.now in
     let links = c.args.links.now in
     let n = counted_by e.empty e.whole c.requires in
     let p = c.if-place-links.false in
     let l = laid e.empty e.whole c.requires in
-    let none = ap length (chain_none l.chain c.in-default.is) in
+    let none = ap length (chain_none l.chain c.in_default.is) in
     let s = l.slots in
     insert_refused e.empty e.whole nodes links c.requires c.args.place c.args.item Full (rule_full (capacity_of nodes) (listed nodes links) c.args.place c.args.item (omega arith) (omega arith))
 

@@ -1,4 +1,3 @@
-use Rattle.trees.specs.Structures.{tree_of}
 use Rattle.trees.proofs.Reading.{laid, shaped_by}
 use Rattle.trees.proofs.reads.at.Goals as goal
 

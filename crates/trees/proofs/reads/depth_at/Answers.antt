@@ -1,4 +1,3 @@
-use Rattle.std.proofs.Common.{false}
 use Rattle.trees.specs.Structures.{tree_of}
 use Rattle.trees.proofs.Reading.{laid}
 use Rattle.trees.proofs.Growing.{low_enough}

@@ -1,4 +1,3 @@
-use Rattle.trees.specs.Structures.{tree_of}
 use Rattle.trees.proofs.Reading.{shaped_by}
 use Rattle.trees.proofs.reads.sum_before.Goals as goal
 

@@ -1,4 +1,4 @@
-use Rattle.std.proofs.Common.{◌≡◌, ◌-◌, Bool, false, cond, None, sym, refl, ap, ◌∙◌, subst}
+use Rattle.std.proofs.Common.{◌≡◌, ◌-◌, false, cond, None, sym, ap, ◌∙◌, subst}
 use Rattle.trees.specs.Structures.{tree_of}
 use Rattle.trees.specs.Operations.{Removes}
 use Rattle.trees.proofs.Reading.{laid}
@@ -9,12 +9,12 @@ use Rattle.trees.proofs.remove_at.remove_at.Goals.{then-shrunk, else-shrunk}
 pub remove-requires : goal.remove-requires
 remove-requires g c = let e = g.E.Element in shrinkable e.empty e.whole c.args.nodes.now c.args.links.now c.requires c.args.place
 
-pub returns-in-default : goal.returns-in-default
-returns-in-default g c =
+pub returns-in_default : goal.returns-in_default
+returns-in_default g c =
     let e = g.E.Element in
     let nodes = c.args.nodes.now in
     let links = c.args.links.now in
-    let none = c.in-default.ensures false (tree_of nodes links) ((laid e.empty e.whole c.requires).holds e.empty e.whole) in
+    let none = c.in_default.ensures false (tree_of nodes links) ((laid e.empty e.whole c.requires).holds e.empty e.whole) in
     subst (λ ns. Removes e.empty e.whole nodes links ns links c.args.place None) (sym none.1) (remove_refused e.empty e.whole nodes links c.requires c.args.place none.0)
 
 pub release-free-requires : goal.release-free-requires
@@ -22,8 +22,8 @@ release-free-requires g c =
     let e = g.E.Element in
     freed_within e.empty e.whole c.args.nodes.now c.args.links.now c.requires c.args.place c.remove.new.nodes c.remove.auto.nodes c.in-Some.shrunk c.in-Some.ensures
 
-pub overflow-sub-count : goal.overflow-sub-count
-overflow-sub-count g c =
+pub overflow_sub-count : goal.overflow_sub-count
+overflow_sub-count g c =
     let e = g.E.Element in
     some_counted e.empty e.whole c.args.nodes.now c.args.links.now c.requires c.args.place c.remove.new.nodes c.remove.auto.nodes c.in-Some.shrunk c.in-Some.ensures
 

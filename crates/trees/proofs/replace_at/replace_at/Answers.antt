@@ -1,4 +1,4 @@
-use Rattle.std.proofs.Common.{◌≡◌, false, None, sym, refl, ap, ◌∙◌, subst}
+use Rattle.std.proofs.Common.{false, None, sym, subst}
 use Rattle.trees.specs.Structures.{tree_of}
 use Rattle.trees.specs.Operations.{Replaces}
 use Rattle.trees.proofs.Reading.{laid}
@@ -8,12 +8,12 @@ use Rattle.trees.proofs.replace_at.replace_at.Goals as goal
 pub replace-requires : goal.replace-requires
 replace-requires g c = let e = g.E.Element in sound e.empty e.whole c.args.nodes.now c.args.links.now c.requires c.args.place
 
-pub returns-in-default : goal.returns-in-default
-returns-in-default g c =
+pub returns-in_default : goal.returns-in_default
+returns-in_default g c =
     let e = g.E.Element in
     let nodes = c.args.nodes.now in
     let links = c.args.links.now in
-    let none = c.in-default.ensures false (tree_of nodes links) ((laid e.empty e.whole c.requires).holds e.empty e.whole) in
+    let none = c.in_default.ensures false (tree_of nodes links) ((laid e.empty e.whole c.requires).holds e.empty e.whole) in
     subst (λ ns. Replaces e.empty e.whole nodes links ns links c.args.place c.args.item None) (sym none.1) (replace_refused e.empty e.whole nodes links c.requires c.args.place c.args.item none.0)
 
 pub returns : goal.returns
