@@ -162,8 +162,8 @@ module _ {P : Type 0} (nb : P → P → Bool) (canonical : P → P) (L : Lawful 
           let r = rising_journal (entries rs) k.order in
           let got = dated_row s rs q in
           let at : slice_get rs (earlier rs s) ≡ Some got.0 = subst (λ n. slice_get rs (earlier rs n) ≡ Some got.0) got.2 (row_at_place 0 rs got.0 r got.1) in
-          let entered-is : entry_at s (entries rs) ≡ Some (entry_of got.0) = subst (λ n. entry_at n (entries rs) ≡ Some (entry_of got.0)) got.2 (entry_of_row 0 rs got.0 r got.1) in
-          subst₂ (λ ro eo. Goal true true ro eo (first_unserved nb (struck s (entries rs)))) (sym at) (sym entered-is) (by_row got.0 got.1 entered-is)
+          let entered_is : entry_at s (entries rs) ≡ Some (entry_of got.0) = subst (λ n. entry_at n (entries rs) ≡ Some (entry_of got.0)) got.2 (entry_of_row 0 rs got.0 r got.1) in
+          subst₂ (λ ro eo. Goal true true ro eo (first_unserved nb (struck s (entries rs)))) (sym at) (sym entered_is) (by_row got.0 got.1 entered_is)
 
       range : (a : Bool) → Goal a (dated s (entries rs)) (row_dated rs s) (entry_at s (entries rs)) (first_unserved nb (struck s (entries rs)))
       range false = (refl, unchanged rs k)
@@ -187,8 +187,8 @@ module _ {P : Type 0} (nb : P → P → Bool) (canonical : P → P) (L : Lawful 
           let r = rising_journal (entries rs) k.order in
           let got = dated_row s rs q in
           let at : slice_get rs (earlier rs s) ≡ Some got.0 = subst (λ n. slice_get rs (earlier rs n) ≡ Some got.0) got.2 (row_at_place 0 rs got.0 r got.1) in
-          let entered-is : entry_at s (entries rs) ≡ Some (entry_of got.0) = subst (λ n. entry_at n (entries rs) ≡ Some (entry_of got.0)) got.2 (entry_of_row 0 rs got.0 r got.1) in
-          subst₂ (λ ro eo. standing_by ro ≡ standing_of nb canonical (entries rs) s eo) (sym at) (sym entered-is) (by_row got.0 got.1 got.2)
+          let entered_is : entry_at s (entries rs) ≡ Some (entry_of got.0) = subst (λ n. entry_at n (entries rs) ≡ Some (entry_of got.0)) got.2 (entry_of_row 0 rs got.0 r got.1) in
+          subst₂ (λ ro eo. standing_by ro ≡ standing_of nb canonical (entries rs) s eo) (sym at) (sym entered_is) (by_row got.0 got.1 got.2)
 
   by_rows : (capacity spare : ℕ) (rs : List (Row P)) (ws : List (Folder P)) (c : Call P) → Kept nb rs → ws ≡ waiting nb (entries rs) → RightByRows capacity spare rs ws c
   by_rows capacity spare rs ws (call.Arrival f) k e = arrival_by_rows capacity spare rs ws f k

@@ -1,6 +1,8 @@
 // The theory of the rack book: who moves at a correction, and why the bridges find it.
-#![tactic(auto)]
 // Each function but `hinder_of` has a theorem for its contract and computes nothing. The theorems on `P` hold of every lawful order.
+
+#![tactic(auto)]
+
 ghost use Rattle.std.specs.Prelude.{◌≡◌, Some};
 ghost use Rattle.bridges.specs.ByRows.{AnswersByRows};
 ghost use Rattle.bridges.specs.Counting.{Counting};

@@ -1,4 +1,5 @@
 // Folders in a tree, foremost first: the summary that a part keeps, and the search for a folder's place.
+
 #![tactic(auto)]
 
 pub mod element;

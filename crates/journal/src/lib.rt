@@ -1,4 +1,5 @@
 // The vocabulary of the rack book: folders, entries, rows, calls, refusals, and the interfaces of a date line and of a rack.
+
 #![tactic(auto)]
 
 pub mod call;

@@ -211,7 +211,7 @@ module _ {P E S : Type 0} {empty : S} {whole : S → E → S → S} {nodes : Lis
       let o = inside_opened w i e node at in
       let sized : size w.rest ≡ suc (size o.before + size o.after) = ap size o.is in
       let within = w.kept.room in
-      let whole-size = stored_right w.all_held in
+      let whole_size = stored_right w.all_held in
       omega arith
 
   -- what the search knows of the two sides, where it is right and lawful

@@ -25,8 +25,8 @@ size_at nodes (Some i) = stored_size (slice_get nodes i)
 
 -- a branch at a slot, if it has a node, with the parts that its links lead to
 abbrev pub grown : {E S : Type 0} → ℕ → Option (Node E S) → (Option ℕ → Tree E) → Tree E
-grown slot None at-link = leaf
-grown slot (Some node) at-link = branch slot node.item (at-link node.left) (at-link node.right)
+grown slot None at_link = leaf
+grown slot (Some node) at_link = branch slot node.item (at_link node.left) (at_link node.right)
 
 -- the tree at a link, read off to a depth
 abbrev pub tree_at : {E S : Type 0} → ℕ → List (Node E S) → Option ℕ → Tree E

@@ -1,4 +1,5 @@
 // Nodes of binary trees in a lent slice: their layout, and the walks that only read.
+
 #![tactic(auto)]
 
 pub mod element;

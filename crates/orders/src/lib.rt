@@ -1,4 +1,5 @@
 // The interface of a lawful order, the two kinds of priority, and their written forms.
+
 #![tactic(auto)]
 
 mod bytes;

@@ -54,7 +54,7 @@ module _ {E S : Type 0} {empty : S} {whole : S → E → S → S} {nodes exit : 
   close_built l r =
       let b = n / 2 in
       let a = n - n / 2 - 1 in
-      let whole-size : suc (b + a) ≡ n = omega arith in
+      let whole_size : suc (b + a) ≡ n = omega arith in
       let next : suc (lo + b) ≡ lo + b + 1 = omega arith in
       let ls = l.sized in
       let rs = r.sized in
@@ -62,8 +62,8 @@ module _ {E S : Type 0} {empty : S} {whole : S → E → S → S} {nodes exit : 
         tree = branch c.slot c.node.item l.tree r.tree;
         holds = subst (λ o. Holds true empty whole exit o (branch c.slot c.node.item l.tree r.tree)) (sym (root_some order lo n (λ e. omega arith) ∙ c.here)) (close_holds l r);
         even = even_branch (omega arith) l.even r.even;
-        slots_are = ap (λ f. f ++ (c.slot ∷ slots r.tree)) l.slots_are ∙ ap (λ f. range lo b order ++ (c.slot ∷ f)) (r.slots_are ∙ ap (λ k. range k a order) (sym next)) ∙ sym (range_split order lo b a c.slot c.here) ∙ ap (λ k. range lo k order) whole-size;
-        items_are = ap (λ f. f ++ (c.node.item ∷ items r.tree)) l.items_are ∙ ap (λ f. range lo b list ++ (c.node.item ∷ f)) (r.items_are ∙ ap (λ k. range k a list) (sym next)) ∙ sym (range_split list lo b a c.node.item item_there) ∙ ap (λ k. range lo k list) whole-size;
+        slots_are = ap (λ f. f ++ (c.slot ∷ slots r.tree)) l.slots_are ∙ ap (λ f. range lo b order ++ (c.slot ∷ f)) (r.slots_are ∙ ap (λ k. range k a order) (sym next)) ∙ sym (range_split order lo b a c.slot c.here) ∙ ap (λ k. range lo k order) whole_size;
+        items_are = ap (λ f. f ++ (c.node.item ∷ items r.tree)) l.items_are ∙ ap (λ f. range lo b list ++ (c.node.item ∷ f)) (r.items_are ∙ ap (λ k. range k a list) (sym next)) ∙ sym (range_split list lo b a c.node.item item_there) ∙ ap (λ k. range lo k list) whole_size;
         sized = omega arith;
       }
 

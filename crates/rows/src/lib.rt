@@ -1,4 +1,5 @@
 // Rows as elements of a tree: the summary that each part carries, and a date line's questions answered by descents.
+
 #![tactic(auto)]
 
 mod low_sum;

@@ -55,8 +55,8 @@ module _ {P : Type 0} (e : Entry P) where
   entered_rising (d ∷ ds) h free =
       let ih = entered_rising ds in
       let parts = rising_parts d ds in
-      let parts-after = rising_parts d (entered e ds) in
-      let before-all = rising_parts e (d ∷ ds) in
+      let parts_after = rising_parts d (entered e ds) in
+      let before_all = rising_parts e (d ∷ ds) in
       let first = first_above_entered (stamp_of d) ds in
       grind (arith, nat_tests)
 

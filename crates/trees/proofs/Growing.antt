@@ -51,7 +51,7 @@ module _ {E S : Type 0} {nodes : List (Node E S)} {before : Links} {t : Tree E} 
   pub slots_left : before.count + suc (length first_free.0) ≡ length nodes
   slots_left = let c = ap length first_free.1 in let n = l.slots in omega arith
 
-module _ {E S : Type 0} (empty : S) (whole : S → E → S → S) (entry : List (Node E S)) (before : Links) (s : Structured entry before) (slot : ℕ) (free : before.free ≡ Some slot) (node : Node E S) (at : slice_get entry slot ≡ Some node) (place m : ℕ) (item : E) (within : place ≤ before.count) (room : before.count < most_items) (m-is : m ≡ max before.most (before.count + 1)) where
+module _ {E S : Type 0} (empty : S) (whole : S → E → S → S) (entry : List (Node E S)) (before : Links) (s : Structured entry before) (slot : ℕ) (free : before.free ≡ Some slot) (node : Node E S) (at : slice_get entry slot ≡ Some node) (place m : ℕ) (item : E) (within : place ≤ before.count) (room : before.count < most_items) (m_is : m ≡ max before.most (before.count + 1)) where
   pub fitting : Fitting empty whole entry before.root place slot m
   fitting =
       let l = laid empty whole s in
@@ -140,9 +140,9 @@ module _ {E S : Type 0} (empty : S) (whole : S → E → S → S) (entry : List 
           by_rule = λ is. record {
             slot = slot;
             rebuilt = r.whole;
-            grows = subst (λ k. Grows share all k place slot item (tree_of entry before) r.whole (tree_of exit after)) (m-is ∙ ap (max before.most) (add-one before.count)) (subst (λ u. Grows share all m place slot item (tree_of entry before) r.whole u) (sym new_tree) new_growth.grows);
+            grows = subst (λ k. Grows share all k place slot item (tree_of entry before) r.whole (tree_of exit after)) (m_is ∙ ap (max before.most) (add-one before.count)) (subst (λ u. Grows share all m place slot item (tree_of entry before) r.whole u) (sym new_tree) new_growth.grows);
             counted = add-one before.count;
-            most_is = most_is ∙ ap (cond r.whole (before.count + 1)) (m-is ∙ ap (max before.most) (add-one before.count));
+            most_is = most_is ∙ ap (cond r.whole (before.count + 1)) (m_is ∙ ap (max before.most) (add-one before.count));
           };
           refused = λ e is. let z : ◌≡◌ {A = ℕ} 0 1 = cc in absurd (omega arith);
         }

@@ -151,7 +151,7 @@ module _ {E S : Type 0} (empty : S) (whole : S → E → S → S) (entry : List 
         let c = n.1 in
         let sl = l.slots in
         let b = fewer_most in
-        let right-most : most' ≡ cond r.whole (size new_loss.new) before.most = most_is ∙ ap (λ k. cond r.whole k before.most) (let e : before.count - 1 ≡ size new_loss.new = omega arith in e) in
+        let right_most : most' ≡ cond r.whole (size new_loss.new) before.most = most_is ∙ ap (λ k. cond r.whole k before.most) (let e : before.count - 1 ≡ size new_loss.new = omega arith in e) in
         record {
           holds = any_sums (moved new_loss.holds);
           chain = released (spare_of entry before) (chain_kept l.chain (λ k used. new_loss.kept k (let o = l.once k in let f = new_loss.freed k in free_one (uses k new_loss.new) (cond (eqb k r.slot) 1 0) (count k (spare_of entry before)) used f o))) (let u = freed_used in let o = l.once r.slot in omega arith);
@@ -160,7 +160,7 @@ module _ {E S : Type 0} (empty : S) (whole : S → E → S → S) (entry : List 
           slots = omega arith;
           grown = b.0;
           few = b.1;
-          low = subst (λ k. Within share all k new_loss.new) (sym right-most) new_loss.low;
+          low = subst (λ k. Within share all k new_loss.new) (sym right_most) new_loss.low;
         }
       where
         free_one : {t : ℕ} (u a c : ℕ) → (c ≡ 0 → ⊥) → a + u ≡ t → t + c ≤ 1 → u ≡ 0

@@ -62,8 +62,8 @@ module _ {E S : Type 0} {empty : S} {whole : S → E → S → S} {nodes : List 
 
 -- the chain of free slots, read off to a length
 abbrev chained : {E S : Type 0} → ℕ → Option (Node E S) → (Option ℕ → List ℕ) → List ℕ
-chained slot None at-link = []
-chained slot (Some node) at-link = slot ∷ at-link node.left
+chained slot None at_link = []
+chained slot (Some node) at_link = slot ∷ at_link node.left
 
 abbrev pub chain_at : {E S : Type 0} → ℕ → List (Node E S) → Option ℕ → List ℕ
 chain_at zero nodes link = []

@@ -1,4 +1,4 @@
-// Which ancestor of a node that lies too deep is to be rebuilt.
+// Keeping a tree within the allowance of its greatest count: which ancestor of a node that lies too deep is to be rebuilt.
 
 #![tactic(auto)]
 

@@ -15,8 +15,8 @@ pub returns-then-stamp : goal.returns-then-stamp
 returns-then-stamp g c =
     let e = c.stamp.ensures in
     let l = c.if-stamp.true in
-    let no-lesser : ltb (stamp_of c.index-entries-i.result) c.args.stamp ≡ false = grind (arith, nat_tests) in
-    stops (λ e. ltb (stamp_of e) c.args.stamp) c.args.entries.now c.loop-i.i c.index-entries-i.result c.loop-i-test.true c.index-entries-i.is no-lesser c.loop-i.invariant
+    let no_lesser : ltb (stamp_of c.index-entries-i.result) c.args.stamp ≡ false = grind (arith, nat_tests) in
+    stops (λ e. ltb (stamp_of e) c.args.stamp) c.args.entries.now c.loop-i.i c.index-entries-i.result c.loop-i-test.true c.index-entries-i.is no_lesser c.loop-i.invariant
 
 pub returns : goal.returns
 returns g c =
