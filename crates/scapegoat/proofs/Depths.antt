@@ -39,7 +39,7 @@ height_bound (frame false slot item other ∷ fs) t u zero h w = absurd (omega a
 height_bound (frame true slot item other ∷ fs) t u (suc b) h w = let r = height_bound fs t u b (omega arith) (omega arith) in omega arith
 height_bound (frame false slot item other ∷ fs) t u (suc b) h w = let r = height_bound fs t u b (omega arith) (omega arith) in omega arith
 
-low_by_pow : (a b : ℕ) → 2 ^ a < 2 ^ suc b → a ≤ b
+pub low_by_pow : (a b : ℕ) → 2 ^ a < 2 ^ suc b → a ≤ b
 low_by_pow a b h = go (dec_le a b)
   where
     go : Dec (a ≤ b) → a ≤ b

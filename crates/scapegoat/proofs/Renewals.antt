@@ -56,7 +56,7 @@ around_same here same = here
 around_same (inside {slot = slot} {other = other} {fs = fs} node at held more) same =
     inside node (same slot (counted_here slot (uses slot other + frame_uses slot fs)) ∙ at) (held_same held (λ k h. same k (λ e. h (omega arith)))) (around_same more (λ k h. same k (λ e. h (omega arith))))
 
-any_must : {E S : Type 0} {empty : S} {whole : S → E → S → S} {nodes : List (Node E S)} {link : Option ℕ} {t : Tree E} (must : Bool) → Holds true empty whole nodes link t → Holds must empty whole nodes link t
+pub any_must : {E S : Type 0} {empty : S} {whole : S → E → S → S} {nodes : List (Node E S)} {link : Option ℕ} {t : Tree E} (must : Bool) → Holds true empty whole nodes link t → Holds must empty whole nodes link t
 any_must true h = h
 any_must false h = shaped h
 

@@ -6,9 +6,9 @@ use Rattle.nodes.specs.Holding.{Holds, part}
 use Rattle.changes.specs.declared.found.Found.{Found}
 use Rattle.changes.specs.Ways.{Leads}
 use Rattle.changes.proofs.Framing.{height_plug}
-use Rattle.upkeep.specs.Allowances.{part as share, whole as all}
+use Rattle.balance.specs.Allowances.{part as share, whole as all}
 use Rattle.upkeep.specs.Growth.{Within}
-use Rattle.upkeep.proofs.Climbing.{frames_long}
+use Rattle.scapegoat.proofs.Climbing.{frames_long}
 use Rattle.trees.specs.Depths.{Deep}
 
 some_height : {E S : Type 0} {must : Bool} {empty : S} {whole : S → E → S → S} {nodes : List (Node E S)} {slot : ℕ} {t : Tree E} → Holds must empty whole nodes (Some slot) t → 1 ≤ height t

@@ -9,7 +9,8 @@ use Rattle.nodes.proofs.Nths.{nth_within}
 use Rattle.nodes.proofs.Held.{size_is_length, unique}
 use Rattle.changes.specs.Chains.{Chain, count}
 use Rattle.changes.proofs.Chaining.{chain_kept}
-use Rattle.upkeep.specs.Allowances.{part as share, whole as all, most_items}
+use Rattle.balance.specs.Allowances.{part as share, whole as all}
+use Rattle.upkeep.specs.Allowances.{most_items}
 use Rattle.upkeep.proofs.Sides.{allowance_there, allowance_grows}
 use Rattle.changes.proofs.Grafts.{own}
 use Rattle.upkeep.specs.declared.balanced.Balanced.{Balanced}

@@ -16,11 +16,12 @@ use Rattle.changes.specs.Replaced.{Sound, Swapped}
 use Rattle.changes.proofs.Chaining.{chain_kept}
 use Rattle.changes.proofs.Grafts.{own}
 use Rattle.changes.proofs.Growths.{uses_swap, size_swap}
-use Rattle.upkeep.specs.Allowances.{part as share, whole as all, most_items}
+use Rattle.balance.specs.Allowances.{part as share, whole as all}
+use Rattle.upkeep.specs.Allowances.{most_items}
 use Rattle.upkeep.specs.declared.shrunk.Shrunk.{Shrunk}
 use Rattle.upkeep.specs.Growth.{Within}
 use Rattle.upkeep.specs.Loss.{Shrinks, Shrinkable, Loss}
-use Rattle.upkeep.proofs.Renewals.{held_same}
+use Rattle.scapegoat.proofs.Renewals.{held_same}
 use Rattle.trees.specs.declared.links.Links.{Links}
 use Rattle.trees.specs.Structures.{tree_of, listed, Laid, Structured}
 use Rattle.trees.specs.Operations.{Removes, Replaces}

@@ -3,7 +3,7 @@ use Rattle.std.specs.Prelude.{◌≡◌, ℕ, suc, max, Bool, cond, List, [], le
 use Rattle.std.specs.List.{insert, remove, slice_get}
 use Rattle.nodes.specs.declared.node.Node.{Node}
 use Rattle.nodes.specs.Tree.{Tree}
-use Rattle.upkeep.specs.Allowances.{part as share, whole as all}
+use Rattle.balance.specs.Allowances.{part as share, whole as all}
 use Rattle.upkeep.specs.Growth.{Grows}
 use Rattle.upkeep.specs.Loss.{Shrinks}
 use Rattle.trees.specs.declared.links.Links.{Links}

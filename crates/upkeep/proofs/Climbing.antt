@@ -1,52 +1,10 @@
--- Sizes along a way.
-use Rattle.std.proofs.Common.{◌≡◌, ℕ, zero, suc, ◌-◌, ◌*◌, ◌^◌, ◌<◌, ◌≤◌, max, true, false, List, [], ◌∷◌, length, take, Some, Option, sym, refl, ap, ◌∙◌, subst, mul-le-mul_right, mul_assoc, mul_comm, mul-le-mul_left, pow-suc, mul-one, mul_right_comm, arith, length-take}
-use native.Mathlib.Nat.{pow-zero}
-use native.Mathlib.Decide.{dec_lt}
-use Rattle.nodes.specs.declared.node.Node.{Node}
+-- Where no ancestor is heavy, a way is no longer than its count of items allows.
+use Rattle.std.proofs.Common.{◌≡◌, ℕ, ◌*◌, ◌^◌, ◌<◌, ◌≤◌, max, List, length, ap, ◌∙◌, mul-le-mul_left, mul-one, arith}
 use Rattle.nodes.specs.Tree.{Tree, size}
-use Rattle.std.specs.List.{slice_get}
-use Rattle.nodes.specs.Holding.{Holds, part}
-use Rattle.changes.specs.declared.path.Step.{Step}
-use Rattle.changes.specs.Frames.{Frame, frame, steps_of, plug}
-use Rattle.changes.proofs.Framing.{steps_length}
-use Rattle.changes.proofs.Descents.{not_less}
-use Rattle.changes.proofs.Grafts.{nth_take}
+use Rattle.changes.specs.Frames.{Frame, plug}
+use Rattle.scapegoat.proofs.Climbing.{light}
 use Rattle.upkeep.specs.Allowances.{Allowance}
-use Rattle.upkeep.specs.Heavy.{size_from, Heavy}
-
--- the node that a step leads to stores the size of its part
-pub frame_node : {E S : Type 0} {empty : S} {whole : S → E → S → S} {nodes : List (Node E S)} (frames : List (Frame E)) (t : Tree E) (k : ℕ) (step : Step) {link : Option ℕ} → Holds false empty whole nodes link (plug frames t) → slice_get (steps_of frames) k ≡ Some step → (node : Node E S) × (slice_get nodes step.slot ≡ Some node) × (node.size ≡ size_from k frames t)
-frame_node [] t k step h e = let z : ◌≡◌ {A = ℕ} 0 1 = cc in absurd (omega arith)
-frame_node {nodes = nodes} (frame true slot item other ∷ fs) t zero step (part node at left right sized summed) e = let s : record { slot = slot; left = true } ≡ step = cc in (node, ap (λ (u : Step). slice_get nodes u.slot) (sym s) ∙ at, sized)
-frame_node {nodes = nodes} (frame false slot item other ∷ fs) t zero step (part node at left right sized summed) e = let s : record { slot = slot; left = false } ≡ step = cc in (node, ap (λ (u : Step). slice_get nodes u.slot) (sym s) ∙ at, sized)
-frame_node (frame true slot item other ∷ fs) t (suc k) step (part node at left right sized summed) e = frame_node fs t k step left e
-frame_node (frame false slot item other ∷ fs) t (suc k) step (part node at left right sized summed) e = frame_node fs t k step right e
-
-pub size_from_less : {E : Type 0} (k : ℕ) (frames : List (Frame E)) (t : Tree E) → size_from k frames t ≤ size (plug frames t)
-size_from_less zero frames t = omega arith
-size_from_less (suc k) [] t = omega arith
-size_from_less (suc k) (frame true slot item other ∷ fs) t = let r = size_from_less k fs t in omega arith
-size_from_less (suc k) (frame false slot item other ∷ fs) t = let r = size_from_less k fs t in omega arith
-
-pub size_at_end : {E : Type 0} (frames : List (Frame E)) (t : Tree E) → size_from (length frames) frames t ≡ size t
-size_at_end [] t = refl
-size_at_end (f ∷ fs) t = size_at_end fs t
-
--- where no child has more than its share, the way is as short as the ratio asks
-pub light : {E : Type 0} (a b : ℕ) (frames : List (Frame E)) (t : Tree E) → ((k : ℕ) → k < length frames → size_from k frames t * a < size_from (suc k) frames t * b → ⊥) → b ^ length frames * size t ≤ a ^ length frames * size (plug frames t)
-light a b [] t none = rw (pow-zero b, pow-zero a) (omega arith)
-light a b (f ∷ fs) t none =
-    let n = length fs in
-    let S = size (plug (f ∷ fs) t) in
-    let s = size (plug fs t) in
-    let ih : b ^ n * size t ≤ a ^ n * s = light a b fs t (λ k h. none (suc k) (omega arith)) in
-    let here : s * b ≤ S * a = not_less (none 0 (omega arith)) in
-    let one : b ^ suc n * size t ≡ b ^ n * size t * b = ap (λ x. x * size t) (pow-suc b n) ∙ mul_right_comm (b ^ n) b (size t) in
-    let two : b ^ n * size t * b ≤ a ^ n * s * b = mul-le-mul_right b ih in
-    let three : a ^ n * s * b ≡ a ^ n * (s * b) = mul_assoc (a ^ n) s b in
-    let four : a ^ n * (s * b) ≤ a ^ n * (S * a) = mul-le-mul_left (a ^ n) here in
-    let five : a ^ suc n * S ≡ a ^ n * (S * a) = ap (λ x. x * S) (pow-suc a n) ∙ mul_assoc (a ^ n) a S ∙ ap (λ x. a ^ n * x) (mul_comm a S) in
-    omega arith
+use Rattle.upkeep.specs.Heavy.{Heavy}
 
 pub short : {E : Type 0} (a b m d : ℕ) (frames : List (Frame E)) (t : Tree E) → Allowance a b m d → size (plug frames t) ≤ m → size t ≡ 1 → ((k : ℕ) → k < length frames → Heavy a b k frames t → ⊥) → length frames ≤ d
 short a b m d frames t allowed few one none =
@@ -54,30 +12,3 @@ short a b m d frames t allowed few one none =
     let e : b ^ length frames * size t ≡ b ^ length frames = ap (λ n. b ^ length frames * n) one ∙ mul-one (b ^ length frames) in
     let r : a ^ length frames * size (plug frames t) ≤ a ^ length frames * max 1 m = mul-le-mul_left (a ^ length frames) (let l : size (plug frames t) ≤ max 1 m = omega arith in l) in
     allowed.most (length frames) (omega arith)
-
-pub frames_long : {E : Type 0} (frames : List (Frame E)) (steps : List Step) (n : ℕ) → steps_of frames ≡ take n steps → n ≤ length steps → length frames ≡ n
-frames_long frames steps n traced within = sym (steps_length frames) ∙ ap length traced ∙ length-take n steps ∙ omega arith
-
-pub step_there : {E : Type 0} (frames : List (Frame E)) (steps : List Step) (n k : ℕ) {step : Step} → steps_of frames ≡ take n steps → 0 < k → k ≤ n → slice_get steps (k - 1) ≡ Some step → slice_get (steps_of frames) (k - 1) ≡ Some step
-step_there frames steps n k traced some within at = ap (λ l. slice_get l (k - 1)) traced ∙ nth_take n steps (k - 1) (omega arith) ∙ at
-
--- one place higher, where the child there has its share
-pub none_more : {E : Type 0} (a b : ℕ) (frames : List (Frame E)) (t : Tree E) (k own child : ℕ) → 0 < k → own ≡ size_from (k - 1) frames t → child ≡ size_from k frames t → child * b ≤ own * a → ((j : ℕ) → k ≤ j → j < length frames → Heavy a b j frames t → ⊥) → (j : ℕ) → k - 1 ≤ j → j < length frames → Heavy a b j frames t → ⊥
-none_more a b frames t k own child some is was light none j low on heavy = go (dec_lt j k)
-  where
-    go : Dec (j < k) → ⊥
-    go (no far) = none j (omega arith) on heavy
-    go (yes near) =
-        let e : j ≡ k - 1 = omega arith in
-        let f : suc (k - 1) ≡ k = omega arith in
-        let h : size_from (k - 1) frames t * a < size_from (suc (k - 1)) frames t * b = subst (λ i. Heavy a b i frames t) e heavy in
-        let g : size_from (suc (k - 1)) frames t * b ≡ child * b = ap (λ i. size_from i frames t * b) f ∙ ap (λ n. n * b) (sym was) in
-        let o : own * a ≡ size_from (k - 1) frames t * a = ap (λ n. n * a) is in
-        omega arith
-
-pub heavy_here : {E : Type 0} (a b : ℕ) (frames : List (Frame E)) (t : Tree E) (k own child : ℕ) → 0 < k → own ≡ size_from (k - 1) frames t → child ≡ size_from k frames t → own * a < child * b → Heavy a b (k - 1) frames t
-heavy_here a b frames t k own child some is was h =
-    let f : suc (k - 1) ≡ k = omega arith in
-    let g : size_from (suc (k - 1)) frames t * b ≡ child * b = ap (λ i. size_from i frames t * b) f ∙ ap (λ n. n * b) (sym was) in
-    let o : own * a ≡ size_from (k - 1) frames t * a = ap (λ n. n * a) is in
-    omega arith

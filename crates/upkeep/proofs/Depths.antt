@@ -1,51 +1,21 @@
 -- Rebuilding at the nearest heavy ancestor brings the tree back to its depth.
-use Rattle.std.proofs.Common.{◌≡◌, ℕ, zero, suc, ◌+◌, ◌-◌, ◌*◌, ◌^◌, ◌<◌, ◌≤◌, max, true, false, cond, eqb, List, [], ◌∷◌, ◌++◌, length, take, drop, sym, ap, ◌∙◌, subst, pow-suc, arith, length-take, pow_mono}
+use Rattle.std.proofs.Common.{◌≡◌, ℕ, zero, suc, ◌+◌, ◌-◌, ◌*◌, ◌^◌, ◌<◌, ◌≤◌, cond, eqb, List, ◌++◌, length, take, drop, sym, ap, ◌∙◌, subst, pow-suc, arith, length-take, pow_mono}
 use Rattle.std.proofs.lemmas.Bool.Decides.{nat_tests}
 use native.Mathlib.Decide.{dec_le}
 use Rattle.nodes.specs.Tree.{Tree, leaf, branch, items, slots, size, height, uses}
 use Rattle.nodes.proofs.Held.{size_is_length, height_size}
-use Rattle.changes.specs.Frames.{Frame, frame, plug, ahead, behind}
+use Rattle.changes.specs.Frames.{Frame, plug, ahead, behind}
 use Rattle.changes.specs.Chains.{count}
 use Rattle.changes.proofs.Framing.{height_plug, size_plug, items_plug, uses_plug}
 use Rattle.changes.proofs.Growths.{size_swap, uses_swap}
 use Rattle.rebuild.proofs.Ranges.{uses_count}
 use Rattle.upkeep.specs.Allowances.{Allowance}
 use Rattle.upkeep.proofs.Sides.{allowance_one, halves_allowed, more_than_half}
-use Rattle.upkeep.specs.Heavy.{size_from, Heavy}
+use Rattle.scapegoat.specs.Heavy.{size_from}
+use Rattle.upkeep.specs.Heavy.{Heavy}
 use Rattle.upkeep.specs.Growth.{Within}
-use Rattle.upkeep.proofs.Renewals.{plug_cut}
-
-pow_max_left : (x y : ℕ) → 2 ^ x ≤ 2 ^ max x y
-pow_max_left x y = pow_mono {i = x} {j = max x y} (omega arith)
-
-pow_max_right : (x y : ℕ) → 2 ^ y ≤ 2 ^ max x y
-pow_max_right x y = pow_mono {i = y} {j = max x y} (omega arith)
-
--- a tree of so many levels has fewer items than that power of two
-pub full : {E : Type 0} (t : Tree E) → size t + 1 ≤ 2 ^ height t
-full leaf = omega arith
-full (branch slot item before after) =
-    let b = full before in
-    let a = full after in
-    let l = pow_max_left (height before) (height after) in
-    let r = pow_max_right (height before) (height after) in
-    let p = pow-suc 2 (max (height before) (height after)) in
-    omega arith
-
--- with another part in the hole, a tree is no deeper than before or than that part makes it
-pub height_bound : {E : Type 0} (fs : List (Frame E)) (t u : Tree E) (b : ℕ) → height (plug fs t) ≤ b → length fs + height u ≤ b → height (plug fs u) ≤ b
-height_bound [] t u b h w = omega arith
-height_bound (frame true slot item other ∷ fs) t u zero h w = absurd (omega arith)
-height_bound (frame false slot item other ∷ fs) t u zero h w = absurd (omega arith)
-height_bound (frame true slot item other ∷ fs) t u (suc b) h w = let r = height_bound fs t u b (omega arith) (omega arith) in omega arith
-height_bound (frame false slot item other ∷ fs) t u (suc b) h w = let r = height_bound fs t u b (omega arith) (omega arith) in omega arith
-
-low_by_pow : (a b : ℕ) → 2 ^ a < 2 ^ suc b → a ≤ b
-low_by_pow a b h = go (dec_le a b)
-  where
-    go : Dec (a ≤ b) → a ≤ b
-    go (yes l) = l
-    go (no far) = let m : 2 ^ suc b ≤ 2 ^ a = pow_mono {i = suc b} {j = a} (omega arith) in absurd (omega arith)
+use Rattle.scapegoat.proofs.Depths.{full, height_bound, low_by_pow}
+use Rattle.scapegoat.proofs.Renewals.{plug_cut}
 
 -- a ratio of at least a half: the rebuilt part is low enough, since its child on the way was nearly full
 pub rebuilt_low : {E : Type 0} (a b : ℕ) → b ≤ 2 * a → (frames : List (Frame E)) (slot : ℕ) (item : E) (new : Tree E) (k top : ℕ) → height (plug frames leaf) ≤ top → length frames ≡ top → k < length frames → Heavy a b k frames (branch slot item leaf leaf) → size new ≡ size_from k frames (branch slot item leaf leaf) → (1 ≤ size new → 2 ^ height new ≤ 2 * size new) → height (plug (take k frames) new) ≤ top

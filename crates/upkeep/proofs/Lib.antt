@@ -1,4 +1,3 @@
 pub mod Climbing
-pub mod Renewals
 pub mod Depths
 pub mod Sides

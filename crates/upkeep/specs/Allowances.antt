@@ -1,13 +1,6 @@
 -- The depth that a tree may have, for a ratio a / b between a child and its parent.
 use Rattle.std.specs.Prelude.{ℕ, ◌*◌, ◌^◌, ◌≤◌, max}
 
--- the ratio: a child has at most part / whole of the items of its parent
-abbrev pub part : ℕ
-part = 2
-
-abbrev pub whole : ℕ
-whole = 3
-
 -- the greatest count of items of a tree
 abbrev pub most_items : ℕ
 most_items = 4096

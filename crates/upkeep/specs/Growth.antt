@@ -7,7 +7,8 @@ use Rattle.nodes.specs.Holding.{Holds}
 use Rattle.changes.specs.Frames.{Frame, plug, ahead}
 use Rattle.changes.specs.Inserted.{Room}
 use Rattle.rebuild.specs.Shapes.{Even}
-use Rattle.upkeep.specs.Allowances.{part as share, whole as all, most_items, Allowance}
+use Rattle.balance.specs.Allowances.{part as share, whole as all}
+use Rattle.upkeep.specs.Allowances.{most_items, Allowance}
 use Rattle.upkeep.specs.declared.balanced.Balanced.{Balanced}
 use Rattle.upkeep.specs.Heavy.{Nearest}
 

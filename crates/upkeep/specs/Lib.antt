@@ -1,5 +1,4 @@
 pub mod Allowances
 pub mod Heavy
-pub mod Renewed
 pub mod Growth
 pub mod Loss

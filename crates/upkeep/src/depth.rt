@@ -1,11 +1,9 @@
 // How deep a tree may be for the greatest count of items that it has had.
 ghost use Rattle.std.specs.Prelude.{◌≡◌, ◌*◌, ◌^◌, ◌≤◌, min, max};
-ghost use Rattle.upkeep.specs.Allowances.{Allowance, Reaches, part, whole, most_items};
+ghost use Rattle.balance.specs.Allowances.{part, whole};
+ghost use Rattle.upkeep.specs.Allowances.{Allowance, Reaches, most_items};
 
-// A child may have at most PART out of WHOLE of the items of its parent.
-pub const PART: usize = 2;
-
-pub const WHOLE: usize = 3;
+use balance::{PART, WHOLE};
 
 // The greatest count of items of a tree.
 pub const MOST_ITEMS: usize = 4096;

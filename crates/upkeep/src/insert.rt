@@ -6,10 +6,10 @@ ghost use Rattle.upkeep.specs.Growth.{Fitting, Growth};
 
 use crate::balanced::Balanced;
 use crate::depth::allowance;
-use crate::heavy::rebuild_at;
-use crate::nearest_heavy;
 use changes::insert::insert as insert_leaf;
 use nodes::{Element, Node};
+use scapegoat::heavy::rebuild_at;
+use scapegoat::nearest_heavy;
 
 // Puts an item at a place of a tree that may have m items. Where it then lies deeper than their allowance, the part at its
 // nearest heavy ancestor is rebuilt; that there is one is proved, so the last arm but one is never taken.

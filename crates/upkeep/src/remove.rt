@@ -4,8 +4,8 @@ ghost use Rattle.nodes.specs.Tree.{Tree};
 ghost use Rattle.nodes.specs.Holding.{Holds};
 ghost use Rattle.upkeep.specs.Loss.{Shrinkable, Loses};
 
-use crate::depth::{PART, WHOLE};
 use crate::shrunk::Shrunk;
+use balance::{PART, WHOLE};
 use changes::remove::remove as take_out;
 use nodes::read::size_of;
 use nodes::{Element, Node};

@@ -1,6 +1,6 @@
 use Rattle.std.proofs.Common.{◌≡◌, ℕ, suc, ◌+◌, ◌*◌, ◌^◌, ◌≤◌, max, sym, ap, ◌∙◌, mul-le-mul, pow-suc, add-one, arith}
 use native.Mathlib.Nat.{pow-le-pow_right}
-use Rattle.upkeep.proofs.Sides.{next_sides, out_of_reach, at_most_20}
+use Rattle.balance.proofs.Depths.{next_sides, out_of_reach, at_most_20}
 use Rattle.upkeep.proofs.depth.+deeper.Goals as goal
 
 over_small : (d : ℕ) → d ≤ 20 → 3 ^ d ≤ 3486784401

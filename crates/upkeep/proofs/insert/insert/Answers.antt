@@ -3,10 +3,12 @@ use Rattle.nodes.specs.Tree.{leaf, branch, size, uses}
 use Rattle.nodes.proofs.Held.{unique, shaped}
 use Rattle.changes.specs.Frames.{Apart, plug}
 use Rattle.changes.proofs.Framing.{one_or_none}
-use Rattle.upkeep.specs.Allowances.{part as share, whole as all, most_items, Allowance}
+use Rattle.balance.specs.Allowances.{part as share, whole as all}
+use Rattle.upkeep.specs.Allowances.{most_items, Allowance}
 use Rattle.upkeep.specs.Growth.{added, rebuilt, Within}
-use Rattle.upkeep.proofs.Climbing.{frames_long, short}
-use Rattle.upkeep.proofs.Renewals.{grown_apart, grown_size}
+use Rattle.scapegoat.proofs.Climbing.{frames_long}
+use Rattle.upkeep.proofs.Climbing.{short}
+use Rattle.scapegoat.proofs.Renewals.{grown_apart, grown_size}
 use Rattle.upkeep.proofs.Depths.{leaf_within, part_within, part_lists, part_used, part_sized, leaf_used}
 use Rattle.upkeep.proofs.insert.insert.Goals as goal
 
@@ -76,7 +78,7 @@ returns-in-None g c = λ must t h.
     let m : min c.args.m most_items ≡ c.args.m = omega arith in
     let al = subst (λ n. Allowance share all n c.allowance-allowed.result) m c.allowance-allowed.ensures in
     let n = c.in-None.ensures _ i.frames (branch c.args.slot c.args.item leaf leaf) (shaped i.holds) i.traced refl in
-    let near = short share all c.args.m _ i.frames (branch c.args.slot c.args.item leaf leaf) al (omega arith) refl n in
+    let near = short share all c.args.m _ i.frames (branch c.args.slot c.args.item leaf leaf) al (omega arith) refl n.0 in
     absurd (omega arith)
 
 pub returns-in-Some : goal.returns-in-Some

@@ -3,10 +3,10 @@ use Rattle.nodes.specs.Tree.{size}
 use Rattle.nodes.proofs.Held.{unique, shaped, size_is_length}
 use Rattle.changes.specs.Chains.{count}
 use Rattle.rebuild.proofs.Ranges.{uses_count}
-use Rattle.upkeep.specs.Allowances.{part as share, whole as all}
+use Rattle.balance.specs.Allowances.{part as share, whole as all}
 use Rattle.upkeep.specs.Growth.{Within}
 use Rattle.upkeep.specs.Loss.{thinned, rebuilt}
-use Rattle.upkeep.proofs.Renewals.{any_must}
+use Rattle.scapegoat.proofs.Renewals.{any_must}
 use Rattle.upkeep.proofs.Depths.{flat_within}
 use Rattle.upkeep.proofs.remove.remove.Goals as goal
 
