@@ -3,4 +3,4 @@
 #![tactic(auto)]
 
 mod by_rank;
-pub mod scapegoat;
+pub mod scapegoat_rack;
