@@ -2,28 +2,31 @@
 
 #![tactic(auto)]
 
-ghost use Rattle.std.specs.Prelude.{◌≡◌, ◌*◌, ◌^◌, ◌≤◌};
-ghost use Rattle.balance.specs.Allowances.{Allowance, Reaches, part, whole};
+ghost use Rattle.std.specs.Prelude.{◌≡◌, ◌*◌, ◌^◌, ◌≤◌, min, max};
+ghost use Rattle.balance.specs.Allowances.{Allowance, Reaches, most_items, part, whole};
 
 // A child may have at most PART out of WHOLE of the items of its parent.
 pub const PART: usize = 2;
 
 pub const WHOLE: usize = 3;
 
-// The greatest depth d with WHOLE^d ≤ PART^d × m, and 0 where m is 0.
+// The greatest count of items of a tree.
+pub const MOST_ITEMS: usize = 4096;
+
+// The greatest depth d with WHOLE^d ≤ PART^d × m. No items are allowed what one is; more than a tree holds are read as that.
 pub fn allowance(m: usize) -> usize
-    requires { m ≤ 4096 }
-    ensures { Allowance part whole m result }
+    ensures { Allowance part whole (min m most_items) result }
 {
-    deeper(m, 0, 1, m)
+    let few = m.min(MOST_ITEMS);
+    deeper(few, 0, 1, few.max(1))
 }
 
 // The same, where a depth is reached already; `over` and `under` are the two sides at that depth.
 fn deeper(m: usize, depth: usize, over: usize, under: usize) -> usize
-    requires few { m ≤ 4096 }
+    requires few { m ≤ most_items }
     requires shallow { depth ≤ 20 }
     requires over { over ≡ whole ^ depth }
-    requires under { under ≡ part ^ depth * m }
+    requires under { under ≡ part ^ depth * max 1 m }
     requires reached { Reaches part whole m depth }
     ensures { Allowance part whole m result }
 {

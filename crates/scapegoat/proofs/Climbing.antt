@@ -1,5 +1,5 @@
 -- Sizes along a way.
-use Rattle.std.proofs.Common.{◌≡◌, ℕ, zero, suc, ◌-◌, ◌*◌, ◌^◌, ◌<◌, ◌≤◌, true, false, List, [], ◌∷◌, length, take, Some, Option, sym, refl, ap, ◌∙◌, subst, mul-le-mul_right, mul_assoc, mul_comm, mul-le-mul_left, pow-suc, mul-one, mul_right_comm, arith, length-take}
+use Rattle.std.proofs.Common.{◌≡◌, ℕ, zero, suc, ◌*◌, ◌++◌, ◌^◌, ◌<◌, ◌≤◌, max, true, false, List, [], ◌∷◌, length, take, Some, Option, sym, refl, ap, ◌∙◌, subst, mul-le-mul_right, mul_assoc, mul_comm, mul-le-mul_left, pow-suc, mul-one, mul_right_comm, arith, length-take}
 use native.Mathlib.Nat.{pow-zero}
 use native.Mathlib.Decide.{dec_lt}
 use Rattle.nodes.specs.declared.node.Node.{Node}
@@ -33,7 +33,7 @@ size_at_end [] t = refl
 size_at_end (f ∷ fs) t = size_at_end fs t
 
 -- where no child has more than its share, the way is as short as the ratio asks
-pub light : {E : Type 0} (a b : ℕ) (frames : List (Frame E)) (t : Tree E) → ((k : ℕ) → k < length frames → size_from k frames t * a < size_from (suc k) frames t * b → ⊥) → b ^ length frames * size t ≤ a ^ length frames * size (plug frames t)
+pub light : {E : Type 0} (a b : ℕ) (frames : List (Frame E)) (t : Tree E) → ((k : ℕ) → k < length frames → Heavy a b k frames t → ⊥) → b ^ length frames * size t ≤ a ^ length frames * size (plug frames t)
 light a b [] t none = rw (pow-zero b, pow-zero a) (omega arith)
 light a b (f ∷ fs) t none =
     let n = length fs in
@@ -48,34 +48,29 @@ light a b (f ∷ fs) t none =
     let five : a ^ suc n * S ≡ a ^ n * (S * a) = ap (λ x. x * S) (pow-suc a n) ∙ mul_assoc (a ^ n) a S ∙ ap (λ x. a ^ n * x) (mul_comm a S) in
     omega arith
 
-pub short : {E : Type 0} (a b m d : ℕ) (frames : List (Frame E)) (t : Tree E) → Allowance a b m d → size (plug frames t) ≤ m → size t ≡ 1 → ((k : ℕ) → k < length frames → size_from k frames t * a < size_from (suc k) frames t * b → ⊥) → length frames ≤ d
+pub short : {E : Type 0} (a b m d : ℕ) (frames : List (Frame E)) (t : Tree E) → Allowance a b m d → size (plug frames t) ≤ m → size t ≡ 1 → ((k : ℕ) → k < length frames → Heavy a b k frames t → ⊥) → length frames ≤ d
 short a b m d frames t allowed few one none =
     let l = light a b frames t none in
     let e : b ^ length frames * size t ≡ b ^ length frames = ap (λ n. b ^ length frames * n) one ∙ mul-one (b ^ length frames) in
-    let r = mul-le-mul_left (a ^ length frames) few in
+    let r : a ^ length frames * size (plug frames t) ≤ a ^ length frames * max 1 m = mul-le-mul_left (a ^ length frames) (let l : size (plug frames t) ≤ max 1 m = omega arith in l) in
     allowed.most (length frames) (omega arith)
 
-pub frames_long : {E : Type 0} (frames : List (Frame E)) (steps : List Step) (n : ℕ) → steps_of frames ≡ take n steps → n ≤ length steps → length frames ≡ n
-frames_long frames steps n traced within = sym (steps_length frames) ∙ ap length traced ∙ length-take n steps ∙ omega arith
+get_there : {A : Type 0} (above : List A) (x : A) (below : List A) → slice_get ((above ++ (x ∷ [])) ++ below) (length above) ≡ Some x
+get_there [] x below = refl
+get_there (a ∷ above) x below = get_there above x below
 
-pub step_there : {E : Type 0} (frames : List (Frame E)) (steps : List Step) (n k : ℕ) {step : Step} → steps_of frames ≡ take n steps → 0 < k → k ≤ n → slice_get steps (k - 1) ≡ Some step → slice_get (steps_of frames) (k - 1) ≡ Some step
-step_there frames steps n k traced some within at = ap (λ l. slice_get l (k - 1)) traced ∙ nth_take n steps (k - 1) (omega arith) ∙ at
+-- the last step of a front of the way
+pub step_there : {E : Type 0} (frames : List (Frame E)) {steps rest : List Step} (above : List Step) (step : Step) (below : List Step) → steps_of frames ≡ steps → rest ++ below ≡ steps → rest ≡ above ++ (step ∷ []) → slice_get (steps_of frames) (length above) ≡ Some step
+step_there frames above step below traced front last =
+    ap (λ l. slice_get l (length above)) (traced ∙ sym front ∙ ap (λ l. l ++ below) last) ∙ get_there above step below
 
 -- one place higher, where the child there has its share
-pub none_more : {E : Type 0} (frames : List (Frame E)) (t : Tree E) (k own child : ℕ) → 0 < k → own ≡ size_from (k - 1) frames t → child ≡ size_from k frames t → child * 3 ≤ own * 2 → ((j : ℕ) → k ≤ j → j < length frames → Heavy j frames t → ⊥) → (j : ℕ) → k - 1 ≤ j → j < length frames → Heavy j frames t → ⊥
-none_more frames t k own child some is was light none j a b heavy = go (dec_lt j k)
+pub none_more : {E : Type 0} (frames : List (Frame E)) (t : Tree E) (k own child : ℕ) → own ≡ size_from k frames t → child ≡ size_from (suc k) frames t → child * 3 ≤ own * 2 → ((j : ℕ) → suc k ≤ j → j < length frames → Heavy 2 3 j frames t → ⊥) → (j : ℕ) → k ≤ j → j < length frames → Heavy 2 3 j frames t → ⊥
+none_more frames t k own child is was light none j a b heavy = go (dec_lt k j)
   where
-    go : Dec (j < k) → ⊥
-    go (no far) = none j (omega arith) b heavy
-    go (yes near) =
-        let e : j ≡ k - 1 = omega arith in
-        let f : suc (k - 1) ≡ k = omega arith in
-        let h : size_from (k - 1) frames t * 2 < size_from (suc (k - 1)) frames t * 3 = subst (λ i. Heavy i frames t) e heavy in
-        let g = ap (λ i. size_from i frames t) f in
+    go : Dec (k < j) → ⊥
+    go (yes far) = none j (omega arith) b heavy
+    go (no near) =
+        let e : j ≡ k = omega arith in
+        let h : size_from k frames t * 2 < size_from (suc k) frames t * 3 = subst (λ i. Heavy 2 3 i frames t) e heavy in
         omega arith
-
-pub heavy_here : {E : Type 0} (frames : List (Frame E)) (t : Tree E) (k own child : ℕ) → 0 < k → own ≡ size_from (k - 1) frames t → child ≡ size_from k frames t → own * 2 < child * 3 → Heavy (k - 1) frames t
-heavy_here frames t k own child some is was h =
-    let f : suc (k - 1) ≡ k = omega arith in
-    let g = ap (λ i. size_from i frames t) f in
-    omega arith

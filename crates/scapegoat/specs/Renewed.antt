@@ -9,14 +9,13 @@ use Rattle.changes.specs.Frames.{Frame, steps_of, plug, Apart}
 use Rattle.rebuild.specs.Shapes.{Even}
 
 -- the slice holds a tree of at most 4096 items with this way, longer than the place
-pub record Renewable {E S : Type 0} (empty : S) (whole : S → E → S → S) (nodes : List (Node E S)) (steps : List Step) (len k : ℕ) : Type 0 where
+pub record Renewable {E S : Type 0} (empty : S) (whole : S → E → S → S) (nodes : List (Node E S)) (steps : List Step) (k : ℕ) : Type 0 where
   pub root : Option ℕ
   pub frames : List (Frame E)
   pub part : Tree E
   pub holds : Holds false empty whole nodes root (plug frames part)
-  pub traced : steps_of frames ≡ take len steps
-  pub within : len ≤ length steps
-  pub on_way : k < len
+  pub traced : steps_of frames ≡ steps
+  pub on_way : k < length steps
   pub apart : Apart (plug frames part)
   pub small : size (plug frames part) ≤ 4096
 

@@ -4,6 +4,7 @@ ghost use Rattle.nodes.specs.Tree.{Tree};
 ghost use Rattle.nodes.specs.Holding.{Holds};
 ghost use Rattle.scapegoat.specs.Growth.{Fitting, Growth};
 
+use crate::balanced::Balanced;
 use crate::heavy::rebuild_at;
 use crate::nearest_heavy;
 use changes::insert::insert as insert_leaf;
@@ -17,16 +18,26 @@ pub fn insert<E: Element>(
     slot: usize,
     item: E,
     allowed: usize,
-) -> Option<usize>
+) -> Balanced
     requires { Fitting E.empty E.whole nodes.old root at slot }
     ensures { (must : Bool) (t : Tree E) → Holds must E.empty E.whole nodes.old root t → Growth must E.empty E.whole nodes.old nodes.new at slot item allowed t result }
 {
     let grown = insert_leaf::<E>(nodes, root, at, slot, item);
-    if grown.path.len <= allowed {
-        return grown.root;
+    let steps = grown.path.as_slice();
+    if steps.len() <= allowed {
+        return Balanced {
+            root: grown.root,
+            whole: false,
+        };
     }
-    match nearest_heavy::<E>(nodes, &grown.path) {
-        None => grown.root,
-        Some(k) => rebuild_at::<E>(nodes, &grown.path, k),
+    match nearest_heavy::<E>(nodes, steps) {
+        None => Balanced {
+            root: grown.root,
+            whole: false,
+        },
+        Some(k) => Balanced {
+            root: rebuild_at::<E>(nodes, steps, k),
+            whole: k == 0,
+        },
     }
 }

@@ -9,35 +9,12 @@ use Rattle.changes.specs.Chains.{count}
 use Rattle.changes.proofs.Framing.{height_plug, size_plug, items_plug, uses_plug}
 use Rattle.changes.proofs.Growths.{size_swap, uses_swap}
 use Rattle.rebuild.proofs.Ranges.{uses_count}
-use Rattle.upkeep.specs.Allowances.{Allowance}
-use Rattle.upkeep.proofs.Sides.{allowance_one, halves_allowed, more_than_half}
-use Rattle.scapegoat.specs.Heavy.{size_from}
-use Rattle.upkeep.specs.Heavy.{Heavy}
+use Rattle.balance.specs.Allowances.{Allowance}
+use Rattle.balance.proofs.Sides.{allowance_one, halves_allowed}
+use Rattle.scapegoat.specs.Heavy.{size_from, Heavy}
 use Rattle.upkeep.specs.Growth.{Within}
-use Rattle.scapegoat.proofs.Depths.{full, height_bound, low_by_pow}
+use Rattle.scapegoat.proofs.Depths.{height_bound, rebuilt_low}
 use Rattle.scapegoat.proofs.Renewals.{plug_cut}
-
--- a ratio of at least a half: the rebuilt part is low enough, since its child on the way was nearly full
-pub rebuilt_low : {E : Type 0} (a b : ℕ) → b ≤ 2 * a → (frames : List (Frame E)) (slot : ℕ) (item : E) (new : Tree E) (k top : ℕ) → height (plug frames leaf) ≤ top → length frames ≡ top → k < length frames → Heavy a b k frames (branch slot item leaf leaf) → size new ≡ size_from k frames (branch slot item leaf leaf) → (1 ≤ size new → 2 ^ height new ≤ 2 * size new) → height (plug (take k frames) new) ≤ top
-rebuilt_low a b ratio frames slot item new k top low long on heavy sized flat =
-    let y = plug (drop (suc k) frames) leaf in
-    let above = length-take (suc k) frames in
-    let whole = height_plug (take (suc k) frames) y in
-    let same = ap height (plug_cut (suc k) frames leaf) in
-    let deep : suc k + height y ≤ top = omega arith in
-    let few = full y in
-    let swap = size_swap (drop (suc k) frames) (branch slot item leaf leaf) leaf in
-    let half = more_than_half a b (size_from k frames (branch slot item leaf leaf)) (size_from (suc k) frames (branch slot item leaf leaf)) ratio heavy in
-    let d = top - suc k in
-    let power : 2 ^ height y ≤ 2 ^ d = pow_mono {i = height y} {j = d} (omega arith) in
-    let p = pow-suc 2 d in
-    let q = pow-suc 2 (suc d) in
-    let more = size_plug (drop k frames) (branch slot item leaf leaf) in
-    let some : 1 ≤ size new = omega arith in
-    let h = flat some in
-    let l : height new ≤ suc d = low_by_pow (height new) (suc d) (omega arith) in
-    let cut = length-take k frames in
-    height_bound (take k frames) (plug (drop k frames) leaf) new top (rw (plug_cut k frames leaf) low) (omega arith)
 
 -- a tree as low as can be is within the allowance of its own count
 pub flat_within : {E : Type 0} (a b : ℕ) → b ≤ 2 * a → (t : Tree E) → (1 ≤ size t → 2 ^ height t ≤ 2 * size t) → Within a b (size t) t

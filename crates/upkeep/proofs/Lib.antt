@@ -1,3 +1,2 @@
-pub mod Climbing
 pub mod Depths
-pub mod Sides
+pub mod Regrown

@@ -7,10 +7,9 @@ use Rattle.nodes.specs.Holding.{Holds}
 use Rattle.changes.specs.Frames.{Frame, plug, ahead}
 use Rattle.changes.specs.Inserted.{Room}
 use Rattle.rebuild.specs.Shapes.{Even}
-use Rattle.balance.specs.Allowances.{part as share, whole as all}
-use Rattle.upkeep.specs.Allowances.{most_items, Allowance}
-use Rattle.upkeep.specs.declared.balanced.Balanced.{Balanced}
-use Rattle.upkeep.specs.Heavy.{Nearest}
+use Rattle.balance.specs.Allowances.{part as share, whole as all, most_items, Allowance}
+use Rattle.scapegoat.specs.declared.balanced.Balanced.{Balanced}
+use Rattle.scapegoat.specs.Heavy.{Nearest}
 
 -- no node lies deeper than the allowance of m; a tree of one level has depth 0
 abbrev pub Within : {E : Type 0} → ℕ → ℕ → ℕ → Tree E → Type 0

@@ -1,4 +1,2 @@
-pub mod Allowances
-pub mod Heavy
 pub mod Growth
 pub mod Loss

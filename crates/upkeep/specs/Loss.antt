@@ -6,8 +6,7 @@ use Rattle.nodes.specs.Tree.{Tree, items, size, height, uses}
 use Rattle.nodes.specs.Holding.{Holds}
 use Rattle.changes.specs.Replaced.{Sound}
 use Rattle.rebuild.specs.Shapes.{Even}
-use Rattle.balance.specs.Allowances.{part as share, whole as all}
-use Rattle.upkeep.specs.Allowances.{most_items}
+use Rattle.balance.specs.Allowances.{part as share, whole as all, most_items}
 use Rattle.upkeep.specs.declared.shrunk.Shrunk.{Shrunk}
 use Rattle.upkeep.specs.Growth.{Within}
 

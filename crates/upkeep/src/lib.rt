@@ -1,9 +1,7 @@
-// Keeping a tree within the allowance of its greatest count: the allowance of any count, insertion and removal.
+// Keeping a tree within the allowance of its greatest count: insertion and removal.
 
 #![tactic(auto)]
 
-pub mod balanced;
-pub mod depth;
 pub mod insert;
 pub mod remove;
 pub mod shrunk;

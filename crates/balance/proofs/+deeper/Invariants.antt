@@ -1,4 +1,4 @@
-use Prim.Native.Nat.{◌-◌}
+use Rattle.std.proofs.Common.{◌-◌}
 use Rattle.balance.proofs.+deeper.Given as goal
 
 abbrev pub decreases-deeper : goal.decreases-deeper

@@ -2,8 +2,7 @@
 use Rattle.std.proofs.Common.{◌≡◌, ℕ, zero, suc, ◌*◌, ◌^◌, ◌<◌, ◌≤◌, max, sym, ap, ◌∙◌, subst, mul-le-mul_right, mul_assoc, mul_comm, mul-le-mul_left, pow-suc, mul_right_comm, arith}
 use native.Mathlib.Nat.{pow-le-pow_left, pow-zero}
 use native.Mathlib.Decide.{dec_lt, dec_le}
-use Rattle.upkeep.specs.Allowances.{most_items, Reaches, Allowance}
-use Rattle.balance.specs.Allowances.{part, whole}
+use Rattle.balance.specs.Allowances.{most_items, part, whole, Reaches, Allowance}
 use Rattle.balance.proofs.Depths.{at_most_20}
 
 -- more items are allowed no less

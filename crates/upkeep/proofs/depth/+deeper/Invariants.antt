@@ -1,5 +1,0 @@
-use Rattle.std.proofs.Common.{◌-◌}
-use Rattle.upkeep.proofs.depth.+deeper.Given as goal
-
-abbrev pub decreases-deeper : goal.decreases-deeper
-decreases-deeper l = 21 - l.depth
