@@ -16,6 +16,5 @@ pub use element::Element;
 pub use node::Node;
 pub use part::{Fork, Part};
 pub use probe::Probe;
-pub use read::item_at;
 pub use search::{first_hit, last_hit};
 pub use sums::{sum_before, sum_from};
