@@ -17,4 +17,3 @@ pub use node::Node;
 pub use part::{Fork, Part};
 pub use probe::Probe;
 pub use search::{first_hit, last_hit};
-pub use sums::{sum_before, sum_from};
