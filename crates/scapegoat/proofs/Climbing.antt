@@ -1,32 +1,31 @@
 -- Sizes along a way.
-use Rattle.std.proofs.Common.{◌≡◌, ℕ, zero, suc, ◌*◌, ◌++◌, ◌^◌, ◌<◌, ◌≤◌, max, true, false, List, [], ◌∷◌, length, take, Some, Option, sym, refl, ap, ◌∙◌, subst, mul-le-mul_right, mul_assoc, mul_comm, mul-le-mul_left, pow-suc, mul-one, mul_right_comm, arith, length-take}
+use Rattle.std.proofs.Common.{◌≡◌, ℕ, zero, suc, ◌*◌, ◌++◌, ◌^◌, ◌<◌, ◌≤◌, max, false, List, [], ◌∷◌, length, Some, Option, sym, refl, ap, ◌∙◌, subst, mul-le-mul_right, mul_assoc, mul_comm, mul-le-mul_left, pow-suc, mul-one, mul_right_comm, arith}
 use native.Mathlib.Nat.{pow-zero}
 use native.Mathlib.Decide.{dec_lt}
 use Rattle.nodes.specs.declared.node.Node.{Node}
 use Rattle.nodes.specs.Tree.{Tree, size}
 use Rattle.std.specs.List.{slice_get}
 use Rattle.nodes.specs.Holding.{Holds, part}
+use Rattle.changes.specs.declared.path.Side.TheVariants.{Left, Right}
 use Rattle.changes.specs.declared.path.Step.{Step}
 use Rattle.changes.specs.Frames.{Frame, frame, steps_of, plug}
-use Rattle.changes.proofs.Framing.{steps_length}
 use Rattle.changes.proofs.Descents.{not_less}
-use Rattle.changes.proofs.Grafts.{nth_take}
 use Rattle.balance.specs.Allowances.{Allowance}
 use Rattle.scapegoat.specs.Heavy.{size_from, Heavy}
 
 -- the node that a step leads to stores the size of its part
 pub frame_node : {E S : Type 0} {empty : S} {whole : S → E → S → S} {nodes : List (Node E S)} (frames : List (Frame E)) (t : Tree E) (k : ℕ) (step : Step) {link : Option ℕ} → Holds false empty whole nodes link (plug frames t) → slice_get (steps_of frames) k ≡ Some step → (node : Node E S) × (slice_get nodes step.slot ≡ Some node) × (node.size ≡ size_from k frames t)
 frame_node [] t k step h e = let z : ◌≡◌ {A = ℕ} 0 1 = cc in absurd (omega arith)
-frame_node {nodes = nodes} (frame true slot item other ∷ fs) t zero step (part node at left right sized summed) e = let s : record { slot = slot; left = true } ≡ step = cc in (node, ap (λ (u : Step). slice_get nodes u.slot) (sym s) ∙ at, sized)
-frame_node {nodes = nodes} (frame false slot item other ∷ fs) t zero step (part node at left right sized summed) e = let s : record { slot = slot; left = false } ≡ step = cc in (node, ap (λ (u : Step). slice_get nodes u.slot) (sym s) ∙ at, sized)
-frame_node (frame true slot item other ∷ fs) t (suc k) step (part node at left right sized summed) e = frame_node fs t k step left e
-frame_node (frame false slot item other ∷ fs) t (suc k) step (part node at left right sized summed) e = frame_node fs t k step right e
+frame_node {nodes = nodes} (frame Left slot item other ∷ fs) t zero step (part node at left right sized summed) e = let s : record { slot = slot; side = Left } ≡ step = cc in (node, ap (λ (u : Step). slice_get nodes u.slot) (sym s) ∙ at, sized)
+frame_node {nodes = nodes} (frame Right slot item other ∷ fs) t zero step (part node at left right sized summed) e = let s : record { slot = slot; side = Right } ≡ step = cc in (node, ap (λ (u : Step). slice_get nodes u.slot) (sym s) ∙ at, sized)
+frame_node (frame Left slot item other ∷ fs) t (suc k) step (part node at left right sized summed) e = frame_node fs t k step left e
+frame_node (frame Right slot item other ∷ fs) t (suc k) step (part node at left right sized summed) e = frame_node fs t k step right e
 
 pub size_from_less : {E : Type 0} (k : ℕ) (frames : List (Frame E)) (t : Tree E) → size_from k frames t ≤ size (plug frames t)
 size_from_less zero frames t = omega arith
 size_from_less (suc k) [] t = omega arith
-size_from_less (suc k) (frame true slot item other ∷ fs) t = let r = size_from_less k fs t in omega arith
-size_from_less (suc k) (frame false slot item other ∷ fs) t = let r = size_from_less k fs t in omega arith
+size_from_less (suc k) (frame Left slot item other ∷ fs) t = let r = size_from_less k fs t in omega arith
+size_from_less (suc k) (frame Right slot item other ∷ fs) t = let r = size_from_less k fs t in omega arith
 
 pub size_at_end : {E : Type 0} (frames : List (Frame E)) (t : Tree E) → size_from (length frames) frames t ≡ size t
 size_at_end [] t = refl

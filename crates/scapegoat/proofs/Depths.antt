@@ -1,11 +1,12 @@
 -- Rebuilding at the nearest heavy ancestor brings the tree back to its depth.
-use Rattle.std.proofs.Common.{◌≡◌, ℕ, zero, suc, ◌+◌, ◌-◌, ◌*◌, ◌^◌, ◌<◌, ◌≤◌, max, Bool, true, false, List, [], ◌∷◌, ◌++◌, length, take, drop, Some, Option, sym, ap, ◌∙◌, pow-suc, arith, length-take, pow_mono}
+use Rattle.std.proofs.Common.{◌≡◌, ℕ, zero, suc, ◌+◌, ◌-◌, ◌*◌, ◌^◌, ◌<◌, ◌≤◌, max, Bool, List, [], ◌∷◌, ◌++◌, length, take, drop, Some, Option, sym, ap, ◌∙◌, pow-suc, arith, length-take, pow_mono}
 use native.Mathlib.Decide.{dec_le}
 use Rattle.nodes.specs.Tree.{Tree, leaf, branch, items, size, height}
 use Rattle.nodes.specs.declared.node.Node.{Node}
 use Rattle.nodes.specs.Holding.{Holds}
 use Rattle.nodes.proofs.Held.{size_is_length}
 use Rattle.changes.specs.Inserted.{inserted}
+use Rattle.changes.specs.declared.path.Side.TheVariants.{Left, Right}
 use Rattle.changes.specs.Frames.{Frame, frame, plug, ahead, behind}
 use Rattle.changes.proofs.Framing.{height_plug, size_plug, items_plug}
 use Rattle.changes.proofs.Growths.{size_swap}
@@ -35,10 +36,10 @@ full (branch slot item before after) =
 -- with another part in the hole, a tree is no deeper than before or than that part makes it
 pub height_bound : {E : Type 0} (fs : List (Frame E)) (t u : Tree E) (b : ℕ) → height (plug fs t) ≤ b → length fs + height u ≤ b → height (plug fs u) ≤ b
 height_bound [] t u b h w = omega arith
-height_bound (frame true slot item other ∷ fs) t u zero h w = absurd (omega arith)
-height_bound (frame false slot item other ∷ fs) t u zero h w = absurd (omega arith)
-height_bound (frame true slot item other ∷ fs) t u (suc b) h w = let r = height_bound fs t u b (omega arith) (omega arith) in omega arith
-height_bound (frame false slot item other ∷ fs) t u (suc b) h w = let r = height_bound fs t u b (omega arith) (omega arith) in omega arith
+height_bound (frame Left slot item other ∷ fs) t u zero h w = absurd (omega arith)
+height_bound (frame Right slot item other ∷ fs) t u zero h w = absurd (omega arith)
+height_bound (frame Left slot item other ∷ fs) t u (suc b) h w = let r = height_bound fs t u b (omega arith) (omega arith) in omega arith
+height_bound (frame Right slot item other ∷ fs) t u (suc b) h w = let r = height_bound fs t u b (omega arith) (omega arith) in omega arith
 
 pub low_by_pow : (a b : ℕ) → 2 ^ a < 2 ^ suc b → a ≤ b
 low_by_pow a b h = go (dec_le a b)

@@ -6,6 +6,7 @@ use Rattle.nodes.specs.Tree.{Tree, leaf, branch, items, slots, size, uses}
 use Rattle.std.specs.List.{slice_get}
 use Rattle.nodes.specs.Holding.{Holds, nothing, part}
 use Rattle.nodes.proofs.Held.{shaped}
+use Rattle.changes.specs.declared.path.Side.TheVariants.{Left, Right}
 use Rattle.changes.specs.declared.path.Step.{Step}
 use Rattle.changes.specs.Frames.{Frame, frame, step_of, steps_of, fill, plug, frame_uses, Around, here, inside, Apart}
 use Rattle.changes.specs.Grafted.{Graft}
@@ -17,16 +18,10 @@ use Rattle.rebuild.proofs.Ranges.{uses_count}
 use Rattle.rebuild.proofs.Slots.{slots_long}
 use Rattle.rebuild.specs.Shapes.{Rebuilt}
 
-pub steps_take : {E : Type 0} (k n : ℕ) (frames : List (Frame E)) (steps : List Step) → steps_of frames ≡ take n steps → k ≤ n → steps_of (take k frames) ≡ take k steps
-steps_take zero n frames steps e h = refl
-steps_take (suc k) zero frames steps e h = absurd (omega arith)
-steps_take (suc k) (suc n) [] [] e h = refl
-steps_take (suc k) (suc n) [] (s ∷ ss) e h = cc
-steps_take (suc k) (suc n) (f ∷ fs) [] e h = cc
-steps_take (suc k) (suc n) (f ∷ fs) (s ∷ ss) e h =
-    let a : step_of f ≡ s = cc in
-    let b : steps_of fs ≡ take n ss = cc in
-    ap (λ x. x ∷ steps_of (take k fs)) a ∙ ap (λ l. s ∷ l) (steps_take k n fs ss b (omega arith))
+pub steps_take : {E : Type 0} (k : ℕ) (frames : List (Frame E)) → steps_of (take k frames) ≡ take k (steps_of frames)
+steps_take zero frames = refl
+steps_take (suc k) [] = refl
+steps_take (suc k) (f ∷ fs) = ap (λ l. step_of f ∷ l) (steps_take k fs)
 
 pub plug_cut : {E : Type 0} (k : ℕ) (frames : List (Frame E)) (t : Tree E) → plug (take k frames) (plug (drop k frames) t) ≡ plug frames t
 plug_cut zero frames t = refl
@@ -36,14 +31,14 @@ plug_cut (suc k) (f ∷ fs) t = ap (fill f) (plug_cut k fs t)
 -- the part at the place, under the link of the step there
 pub held_cut : {E S : Type 0} {must : Bool} {empty : S} {whole : S → E → S → S} {nodes : List (Node E S)} (k : ℕ) (frames : List (Frame E)) (t : Tree E) (step : Step) {root : Option ℕ} → Holds must empty whole nodes root (plug frames t) → slice_get (steps_of frames) k ≡ Some step → Around must empty whole nodes root (take k frames) (Some step.slot) × Holds must empty whole nodes (Some step.slot) (plug (drop k frames) t)
 held_cut k [] t step h e = let z : ◌≡◌ {A = ℕ} 0 1 = cc in absurd (omega arith)
-held_cut {must = must} {empty = empty} {whole = whole} {nodes = nodes} zero (frame true slot item other ∷ fs) t step (part node at left right sized summed) e =
-    let s : record { slot = slot; left = true } ≡ step = cc in
-    subst (λ (u : Step). Around must empty whole nodes (Some slot) [] (Some u.slot) × Holds must empty whole nodes (Some u.slot) (plug (frame true slot node.item other ∷ fs) t)) s (here, part node at left right sized summed)
-held_cut {must = must} {empty = empty} {whole = whole} {nodes = nodes} zero (frame false slot item other ∷ fs) t step (part node at left right sized summed) e =
-    let s : record { slot = slot; left = false } ≡ step = cc in
-    subst (λ (u : Step). Around must empty whole nodes (Some slot) [] (Some u.slot) × Holds must empty whole nodes (Some u.slot) (plug (frame false slot node.item other ∷ fs) t)) s (here, part node at left right sized summed)
-held_cut (suc k) (frame true slot item other ∷ fs) t step (part node at left right sized summed) e = let r = held_cut k fs t step left e in (inside {left = true} node at right r.0, r.1)
-held_cut (suc k) (frame false slot item other ∷ fs) t step (part node at left right sized summed) e = let r = held_cut k fs t step right e in (inside {left = false} node at left r.0, r.1)
+held_cut {must = must} {empty = empty} {whole = whole} {nodes = nodes} zero (frame Left slot item other ∷ fs) t step (part node at left right sized summed) e =
+    let s : record { slot = slot; side = Left } ≡ step = cc in
+    subst (λ (u : Step). Around must empty whole nodes (Some slot) [] (Some u.slot) × Holds must empty whole nodes (Some u.slot) (plug (frame Left slot node.item other ∷ fs) t)) s (here, part node at left right sized summed)
+held_cut {must = must} {empty = empty} {whole = whole} {nodes = nodes} zero (frame Right slot item other ∷ fs) t step (part node at left right sized summed) e =
+    let s : record { slot = slot; side = Right } ≡ step = cc in
+    subst (λ (u : Step). Around must empty whole nodes (Some slot) [] (Some u.slot) × Holds must empty whole nodes (Some u.slot) (plug (frame Right slot node.item other ∷ fs) t)) s (here, part node at left right sized summed)
+held_cut (suc k) (frame Left slot item other ∷ fs) t step (part node at left right sized summed) e = let r = held_cut k fs t step left e in (inside {side = Left} node at right r.0, r.1)
+held_cut (suc k) (frame Right slot item other ∷ fs) t step (part node at left right sized summed) e = let r = held_cut k fs t step right e in (inside {side = Right} node at left r.0, r.1)
 
 -- what holds where its slots are as they were
 pub held_same : {E S : Type 0} {must : Bool} {empty : S} {whole : S → E → S → S} {entry exit : List (Node E S)} {link : Option ℕ} {t : Tree E} → Holds must empty whole entry link t → ((k : ℕ) → (uses k t ≡ 0 → ⊥) → slice_get exit k ≡ slice_get entry k) → Holds must empty whole exit link t
@@ -67,11 +62,11 @@ module _ {E S : Type 0} {must : Bool} {empty : S} {whole : S → E → S → S} 
   pub all_uses : (j : ℕ) → uses j (plug frames t) ≡ frame_uses j (take k frames) + uses j (plug (drop k frames) t)
   all_uses j = ap (uses j) (sym (plug_cut k frames t)) ∙ uses_plug j (take k frames) (plug (drop k frames) t)
 
-  pub renew_graft : (steps : List Step) (n : ℕ) → steps_of frames ≡ take n steps → k ≤ n → Graft must empty whole middle root (take k frames) (Some step.slot) link r.tree (take k steps)
-  renew_graft steps n traced within =
+  pub renew_graft : (steps : List Step) → steps_of frames ≡ steps → Graft must empty whole middle root (take k frames) (Some step.slot) link r.tree (take k steps)
+  renew_graft steps traced =
       let cut = held_cut k frames t step h on in
       record {
-        traced = steps_take k n frames steps traced within;
+        traced = steps_take k frames ∙ ap (take k) traced;
         around = around_same cut.0 (λ j used. r.kept j (sym (uses_count j (plug (drop k frames) t)) ∙ (let a = all_uses j in let b = apart j in lone (frame_uses j (take k frames)) (uses j (plug (drop k frames) t)) used (omega arith))));
         held = any_must must r.holds;
         apart = λ j. let a = all_uses j in let b = apart j in let c = new_uses j in let d = uses_plug j (take k frames) r.tree in omega arith;

@@ -6,7 +6,6 @@ pub mod balanced;
 pub mod heavy;
 pub mod insert;
 
-
 ghost use Rattle.std.specs.Prelude.{◌≡◌, ℕ, false, List, Option};
 ghost use Rattle.nodes.specs.Tree.{Tree, size};
 ghost use Rattle.nodes.specs.Holding.{Holds};

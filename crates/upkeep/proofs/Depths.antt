@@ -1,13 +1,13 @@
 -- Rebuilding at the nearest heavy ancestor brings the tree back to its depth.
-use Rattle.std.proofs.Common.{◌≡◌, ℕ, zero, suc, ◌+◌, ◌-◌, ◌*◌, ◌^◌, ◌<◌, ◌≤◌, cond, eqb, List, ◌++◌, length, take, drop, sym, ap, ◌∙◌, subst, pow-suc, arith, length-take, pow_mono}
+use Rattle.std.proofs.Common.{◌≡◌, ℕ, zero, suc, ◌+◌, ◌*◌, ◌^◌, ◌<◌, ◌≤◌, cond, eqb, List, ◌++◌, length, take, drop, sym, ap, ◌∙◌, subst, arith}
 use Rattle.std.proofs.lemmas.Bool.Decides.{nat_tests}
 use native.Mathlib.Decide.{dec_le}
 use Rattle.nodes.specs.Tree.{Tree, leaf, branch, items, slots, size, height, uses}
 use Rattle.nodes.proofs.Held.{size_is_length, height_size}
 use Rattle.changes.specs.Frames.{Frame, plug, ahead, behind}
 use Rattle.changes.specs.Chains.{count}
-use Rattle.changes.proofs.Framing.{height_plug, size_plug, items_plug, uses_plug}
-use Rattle.changes.proofs.Growths.{size_swap, uses_swap}
+use Rattle.changes.proofs.Framing.{height_plug, items_plug, uses_plug}
+use Rattle.changes.proofs.Growths.{uses_swap}
 use Rattle.rebuild.proofs.Ranges.{uses_count}
 use Rattle.balance.specs.Allowances.{Allowance}
 use Rattle.balance.proofs.Sides.{allowance_one, halves_allowed}

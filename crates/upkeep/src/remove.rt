@@ -7,8 +7,7 @@ ghost use Rattle.upkeep.specs.Loss.{Shrinkable, Loses};
 use crate::shrunk::Shrunk;
 use balance::{PART, WHOLE};
 use changes::remove::remove as take_out;
-use nodes::read::size_of;
-use nodes::{Element, Node};
+use nodes::{Element, Node, Part};
 use rebuild::rebuild;
 
 // Takes out the item at a place of a tree that has had m items; none, and nothing changed, past the end.
@@ -21,14 +20,15 @@ pub fn remove<E: Element>(
     requires { Shrinkable E.empty E.whole nodes.old root m }
     ensures { (must : Bool) (t : Tree E) → Holds must E.empty E.whole nodes.old root t → Loses must E.empty E.whole nodes.old nodes.new at m t result }
 {
-    let Some(out) = take_out::<E>(nodes, root, at) else {
-        return None;
-    };
-    let left = size_of::<E>(nodes, out.root);
+    let out = take_out::<E>(nodes, root, at)?;
+    let left = Part {
+        nodes,
+        link: out.root,
+    }
+    .size();
     if left * WHOLE < m * PART {
-        let root = rebuild::<E>(nodes, out.root);
         return Some(Shrunk {
-            root,
+            root: rebuild::<E>(nodes, out.root),
             item: out.item,
             slot: out.slot,
             whole: true,

@@ -1,4 +1,4 @@
-use Rattle.std.proofs.Common.{◌≡◌, ℕ, suc, ◌+◌, ◌<◌, ◌≤◌, ◌++◌, [], ◌∷◌, List, Some, false, length, sym, refl, ap, ◌∙◌, subst, append_assoc, append-nil, arith, length-append}
+use Rattle.std.proofs.Common.{◌≡◌, ℕ, suc, ◌<◌, ◌++◌, [], ◌∷◌, length, sym, ap, ◌∙◌, append_assoc, append-nil, arith, length-append}
 use Rattle.nodes.proofs.Nths.{nth_same, nth_within}
 use Rattle.changes.proofs.Framing.{steps_length}
 use Rattle.scapegoat.specs.Heavy.{size_from}

@@ -1,23 +1,20 @@
-use Rattle.std.proofs.Common.{take, drop, Some, ap, ◌∙◌, arith}
+use Rattle.std.proofs.Common.{take, drop, ap, ◌∙◌, arith}
+use Rattle.std.proofs.lemmas.Option.{slice_get-get_or}
 use Rattle.nodes.specs.Tree.{uses}
 use Rattle.std.specs.List.{slice_get}
 use Rattle.nodes.proofs.Held.{shaped}
 use Rattle.changes.specs.Frames.{plug}
 use Rattle.changes.proofs.Framing.{uses_plug}
-use Rattle.changes.proofs.Grafts.{nth_take}
 use Rattle.rebuild.proofs.Ranges.{uses_count}
 use Rattle.scapegoat.proofs.Climbing.{size_from_less}
 use Rattle.scapegoat.proofs.Renewals.{held_cut, new_uses, all_uses, plug_cut, renew_graft}
 use Rattle.scapegoat.proofs.heavy.rebuild_at.Goals as goal
 
-pub read_at-step-requires : goal.read_at-step-requires
-read_at-step-requires g c = let p = c.requires in let a = p.within in let b = p.on_way in omega arith
-
 pub rebuild-link-requires : goal.rebuild-link-requires
 rebuild-link-requires g c =
     let p = c.requires in
-    let on = ap (λ l. slice_get l c.args.k) p.traced ∙ nth_take c.args.path.now.len c.args.path.now.steps c.args.k p.on_way ∙ c.read_at-step.ensures in
-    let cut = held_cut c.args.k p.frames p.part c.read_at-step.result p.holds on in
+    let on = ap (λ l. slice_get l c.args.k) p.traced ∙ slice_get-get_or _ _ _ p.on_way in
+    let cut = held_cut c.args.k p.frames p.part _ p.holds on in
     let s = size_from_less c.args.k p.frames p.part in
     let f = p.small in
     record {
@@ -30,24 +27,19 @@ rebuild-link-requires g c =
 pub graft-requires : goal.graft-requires
 graft-requires g c =
     let p = c.requires in
-    let on = ap (λ l. slice_get l c.args.k) p.traced ∙ nth_take c.args.path.now.len c.args.path.now.steps c.args.k p.on_way ∙ c.read_at-step.ensures in
-    let cut = held_cut c.args.k p.frames p.part c.read_at-step.result p.holds on in
+    let on = ap (λ l. slice_get l c.args.k) p.traced ∙ slice_get-get_or _ _ _ p.on_way in
+    let cut = held_cut c.args.k p.frames p.part _ p.holds on in
     let r = c.rebuild-link.ensures _ cut.1 in
-    let w = p.on_way in
-    record {
-      parts = record { root = p.root; frames = take c.args.k p.frames; hole = Some c.read_at-step.result.slot; part = r.tree; graft = renew_graft c.args.k p.frames p.part p.holds on p.apart p.small r c.args.path.now.steps c.args.path.now.len p.traced (omega arith) };
-      path = let a = p.within in omega arith;
-    }
+    record { root = p.root; frames = take c.args.k p.frames; hole = _; part = r.tree; graft = renew_graft c.args.k p.frames p.part p.holds on p.apart p.small r c.args.steps.now p.traced }
 
 pub returns : goal.returns
 returns g c = λ must root frames part h traced apart few.
     let p = c.requires in
     let k = c.args.k in
-    let on = ap (λ l. slice_get l k) traced ∙ nth_take c.args.path.now.len c.args.path.now.steps k p.on_way ∙ c.read_at-step.ensures in
-    let cut = held_cut k frames part c.read_at-step.result h on in
+    let on = ap (λ l. slice_get l k) traced ∙ slice_get-get_or _ _ _ p.on_way in
+    let cut = held_cut k frames part _ h on in
     let r = c.rebuild-link.ensures _ (shaped cut.1) in
-    let w = p.on_way in
-    let grafted = c.graft.ensures must _ _ (take k frames) r.tree (renew_graft k frames part h on apart few r c.args.path.now.steps c.args.path.now.len traced (omega arith)) in
+    let grafted = c.graft.ensures must _ _ (take k frames) r.tree (renew_graft k frames part h on apart few r c.args.steps.now traced) in
     record {
       new = r.tree;
       even = r.even;

@@ -1,4 +1,4 @@
-use Rattle.std.proofs.Common.{◌≡◌, ℕ, false, length, sym, ap, ◌∙◌, subst, arith}
+use Rattle.std.proofs.Common.{◌≡◌, ℕ, length, sym, ap, ◌∙◌, subst, arith}
 use Rattle.nodes.specs.Tree.{size}
 use Rattle.nodes.proofs.Held.{unique, shaped, size_is_length}
 use Rattle.changes.specs.Chains.{count}
@@ -10,39 +10,11 @@ use Rattle.scapegoat.proofs.Renewals.{any_must}
 use Rattle.upkeep.proofs.Depths.{flat_within}
 use Rattle.upkeep.proofs.remove.remove.Goals as goal
 
-pub remove-requires : goal.remove-requires
-remove-requires g c = c.requires.sound
-
-pub size_of-left-requires : goal.size_of-left-requires
-size_of-left-requires g c =
-    let o = c.in-Some.ensures false c.requires.sound.tree c.requires.sound.holds in
-    record { tree = o.new; holds = o.holds }
-
-pub overflow_mul-left : goal.overflow_mul-left
-overflow_mul-left g c =
-    let o = c.in-Some.ensures false c.requires.sound.tree c.requires.sound.holds in
-    let s = c.size_of-left.ensures o.new o.holds in
-    let z = o.sized in
-    let l = c.requires.less in
-    let f = c.requires.few in
-    omega arith
-
-pub overflow_mul-m : goal.overflow_mul-m
-overflow_mul-m g c = let f = c.requires.few in omega arith
-
-pub rebuild-root-requires : goal.rebuild-root-requires
-rebuild-root-requires g c =
-    let o = c.in-Some.ensures false c.requires.sound.tree c.requires.sound.holds in
-    let z = o.sized in
-    let l = c.requires.less in
-    let f = c.requires.few in
-    record { tree = o.new; holds = o.holds; apart = λ k. let a = c.requires.sound.apart k in let b = o.freed k in omega arith; small = omega arith }
-
 pub returns-then-left-m : goal.returns-then-left-m
 returns-then-left-m g c = λ must t h.
-    let o = c.in-Some.ensures must t h in
-    let s = c.size_of-left.ensures o.new (shaped o.holds) in
-    let r = c.rebuild-root.ensures o.new (shaped o.holds) in
+    let o = c.in_ok-out.ensures must t h in
+    let s = c.size-left.ensures.counts o.new (shaped o.holds) in
+    let r = c.rebuild.ensures o.new (shaped o.holds) in
     let taken = c.if-left-m.true in
     let same : size r.tree ≡ size o.new = sym (size_is_length r.tree) ∙ ap length r.items_are ∙ size_is_length o.new in
     let used = λ (k : ℕ). uses_count k r.tree ∙ ap (count k) r.slots_are ∙ sym (uses_count k o.new) in
@@ -59,8 +31,8 @@ returns-then-left-m g c = λ must t h.
 
 pub returns : goal.returns
 returns g c = λ must t h.
-    let o = c.in-Some.ensures must t h in
-    let s = c.size_of-left.ensures o.new (shaped o.holds) in
+    let o = c.in_ok-out.ensures must t h in
+    let s = c.size-left.ensures.counts o.new (shaped o.holds) in
     let left = c.if-left-m.false in
     let same = unique c.requires.sound.holds h in
     let low = subst (λ u. Within share all c.args.m u) same c.requires.low in
