@@ -1,5 +1,6 @@
 pub mod Nths
 pub mod Held
+pub mod Parts
 pub mod Places
 pub mod Fronts
 pub mod Hunts

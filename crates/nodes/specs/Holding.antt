@@ -23,6 +23,16 @@ abbrev pub size_at : {E S : Type 0} → List (Node E S) → Option ℕ → ℕ
 size_at nodes None = 0
 size_at nodes (Some i) = stored_size (slice_get nodes i)
 
+-- what opening the part at a link gives: the node there, and the parts at its two links, which have the other nodes
+pub record Opens {E S : Type 0} (nodes : List (Node E S)) (link : Option ℕ) (slot : ℕ) (node : Node E S) (lefts : List (Node E S)) (left : Option ℕ) (rights : List (Node E S)) (right : Option ℕ) : Type 0 where
+  pub leads : link ≡ Some slot
+  pub stands : slice_get nodes slot ≡ Some node
+  pub same_left : lefts ≡ nodes
+  pub at_left : left ≡ node.left
+  pub same_right : rights ≡ nodes
+  pub at_right : right ≡ node.right
+  pub adds : size_at nodes link ≡ suc (size_at lefts left + size_at rights right)
+
 -- a branch at a slot, if it has a node, with the parts that its links lead to
 abbrev pub grown : {E S : Type 0} → ℕ → Option (Node E S) → (Option ℕ → Tree E) → Tree E
 grown slot None at_link = leaf

@@ -5,6 +5,7 @@
 pub mod element;
 mod mark;
 pub mod node;
+pub mod part;
 mod pending;
 pub mod probe;
 pub mod read;
@@ -13,7 +14,6 @@ pub mod sums;
 
 pub use element::Element;
 pub use node::Node;
+pub use part::{Fork, Part};
 pub use probe::Probe;
-pub use read::item_at;
 pub use search::{first_hit, last_hit};
-pub use sums::{sum_before, sum_from};

@@ -1,11 +1,13 @@
-// Reading by place: each walk goes down one path and keeps no stack.
-ghost use Rattle.std.specs.Prelude.{◌≡◌, ℕ, ◌<◌, true, false, length, Some};
-ghost use Rattle.nodes.specs.Tree.{Tree, items, size, summary};
+// Reading by place: the walk goes down one path and keeps no stack.
+ghost use Rattle.std.specs.Prelude.{◌≡◌, ◌<◌, true, false, length, Some};
 ghost use Rattle.std.specs.List.{slice_get};
+ghost use Rattle.std.specs.Option.{option_map};
+ghost use Rattle.nodes.specs.Tree.{Tree, items, slots, size, summary};
 ghost use Rattle.nodes.specs.Holding.{Holds, Shaped};
 
 use crate::element::Element;
 use crate::node::Node;
+use crate::part::{Fork, Part};
 
 pub fn read_at<T: Copy>(slice: &[T], i: usize) -> T
     requires { i < length slice.now }
@@ -36,28 +38,39 @@ pub fn sum_of<E: Element>(nodes: &[Node<E, E::Sum>], link: Option<usize>) -> E::
     }
 }
 
-// The item at a place, or none past the end.
-pub fn item_at<E: Element>(
-    nodes: &[Node<E, E::Sum>],
-    root: Option<usize>,
-    place: usize,
-) -> Option<E>
-    requires { Shaped E.empty E.whole nodes.now root }
-    ensures { (t : Tree E) → Holds false E.empty E.whole nodes.now root t → result ≡ slice_get (items t) place }
-{
-    let mut link = root;
-    let mut rest = place;
-    while let Some(i) = link {
-        let node = read_at(nodes, i);
-        let before = size_of::<E>(nodes, node.left);
-        if rest < before {
-            link = node.left;
-        } else if rest == before {
-            return Some(node.item);
-        } else {
-            link = node.right;
-            rest = rest - before - 1;
+impl<'a, E: Element> Part<'a, E> {
+    // The node at a place, or none past the end.
+    pub fn node_at(&self, place: usize) -> Option<Fork<'a, E>>
+        ensures item { (t : Tree E) → Holds false E.empty E.whole self.now.nodes.now self.now.link t → option_map (λ f. f.node.item) result ≡ slice_get (items t) place }
+        ensures slot { (t : Tree E) → Holds false E.empty E.whole self.now.nodes.now self.now.link t → option_map (λ f. f.slot) result ≡ slice_get (slots t) place }
+    {
+        let mut part = self.again();
+        let mut rest = place;
+        while let Some(fork) = part.open() {
+            let before = fork.left.size();
+            if rest < before {
+                part = fork.left;
+            } else if rest == before {
+                return Some(fork);
+            } else {
+                part = fork.right;
+                rest = rest - before - 1;
+            }
         }
+        None
     }
-    None
+
+    // The item at a place, or none past the end.
+    pub fn item_at(&self, place: usize) -> Option<E>
+        ensures { (t : Tree E) → Holds false E.empty E.whole self.now.nodes.now self.now.link t → result ≡ slice_get (items t) place }
+    {
+        self.node_at(place).map(|fork| fork.node.item)
+    }
+
+    // The slot of the item at a place, or none past the end.
+    pub fn slot_at(&self, place: usize) -> Option<usize>
+        ensures { (t : Tree E) → Holds false E.empty E.whole self.now.nodes.now self.now.link t → result ≡ slice_get (slots t) place }
+    {
+        self.node_at(place).map(|fork| fork.slot)
+    }
 }
