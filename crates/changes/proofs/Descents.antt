@@ -1,11 +1,12 @@
 -- One step of going down with the way kept.
-use Rattle.std.proofs.Common.{◌≡◌, ℕ, suc, ◌+◌, ◌-◌, ◌<◌, ◌≤◌, Bool, true, false, List, [], ◌∷◌, ◌++◌, length, take, Some, Option, sym, refl, ap, ◌∙◌, subst, arith, length-append, length-take}
+use Rattle.std.proofs.Common.{◌≡◌, ℕ, suc, ◌+◌, ◌-◌, ◌<◌, ◌≤◌, Bool, false, List, [], ◌∷◌, ◌++◌, length, Some, Option, sym, refl, ap, ◌∙◌, subst, arith, length-append}
 use native.Mathlib.Decide.{dec_lt}
 use Rattle.nodes.specs.declared.node.Node.{Node}
 use Rattle.nodes.specs.Tree.{Tree, items, size, height}
 use Rattle.std.specs.List.{slice_get}
 use Rattle.nodes.specs.Holding.{Holds}
 use Rattle.nodes.proofs.Held.{Opened, Inside, inside_opened, size_is_length, opened, same_tree}
+use Rattle.changes.specs.declared.path.Side.TheVariants.{Left, Right}
 use Rattle.changes.specs.declared.path.Step.{Step}
 use Rattle.changes.specs.Frames.{frame, plug, ahead, Around, here}
 use Rattle.changes.specs.Ways.{Shallow, Way}
@@ -21,42 +22,40 @@ module _ {E S : Type 0} {empty : S} {whole : S → E → S → S} {nodes : List 
   come : (must : Bool) → Holds must empty whole nodes root all → Around must empty whole nodes root w.frames (Some i)
   come must h = subst (Around must empty whole nodes root w.frames) e (w.around must h)
 
-  pub way_left : {more : List Step} → more ≡ steps ++ (record { slot = i; left = true } ∷ []) → Way empty whole nodes root node.left more skipped all o.before
+  pub way_left : {more : List Step} → more ≡ steps ++ (record { slot = i; side = Left } ∷ []) → Way empty whole nodes root node.left more skipped all o.before
   way_left s = record {
-    frames = w.frames ++ (frame true i node.item o.after ∷ []);
-    traced = steps_push w.frames (frame true i node.item o.after) ∙ ap (λ l. l ++ (record { slot = i; left = true } ∷ [])) w.traced ∙ sym s;
-    around = λ must h. around_push true node (come must h) at (parts must h).1;
+    frames = w.frames ++ (frame Left i node.item o.after ∷ []);
+    traced = steps_push w.frames (frame Left i node.item o.after) ∙ ap (λ l. l ++ (record { slot = i; side = Left } ∷ [])) w.traced ∙ sym s;
+    around = λ must h. around_push Left node (come must h) at (parts must h).1;
     held = λ must h. (parts must h).0;
-    plugs = plug_push w.frames (frame true i node.item o.after) o.before ∙ ap (plug w.frames) (sym o.is) ∙ w.plugs;
+    plugs = plug_push w.frames (frame Left i node.item o.after) o.before ∙ ap (plug w.frames) (sym o.is) ∙ w.plugs;
     ahead_long = ap length (ahead_push w.frames i node.item o.after) ∙ w.ahead_long;
   }
 
-  pub way_right : {more : List Step} (n : ℕ) → n ≡ size o.before → more ≡ steps ++ (record { slot = i; left = false } ∷ []) → Way empty whole nodes root node.right more (skipped + n + 1) all o.after
+  pub way_right : {more : List Step} (n : ℕ) → n ≡ size o.before → more ≡ steps ++ (record { slot = i; side = Right } ∷ []) → Way empty whole nodes root node.right more (skipped + n + 1) all o.after
   way_right n sized s =
       let long = length-append (items o.before) (node.item ∷ []) in
       let b = size_is_length o.before in
       let a = w.ahead_long in
       record {
-        frames = w.frames ++ (frame false i node.item o.before ∷ []);
-        traced = steps_push w.frames (frame false i node.item o.before) ∙ ap (λ l. l ++ (record { slot = i; left = false } ∷ [])) w.traced ∙ sym s;
-        around = λ must h. around_push false node (come must h) at (parts must h).0;
+        frames = w.frames ++ (frame Right i node.item o.before ∷ []);
+        traced = steps_push w.frames (frame Right i node.item o.before) ∙ ap (λ l. l ++ (record { slot = i; side = Right } ∷ [])) w.traced ∙ sym s;
+        around = λ must h. around_push Right node (come must h) at (parts must h).0;
         held = λ must h. (parts must h).1;
-        plugs = plug_push w.frames (frame false i node.item o.before) o.after ∙ ap (plug w.frames) (sym o.is) ∙ w.plugs;
+        plugs = plug_push w.frames (frame Right i node.item o.before) o.after ∙ ap (plug w.frames) (sym o.is) ∙ w.plugs;
         ahead_long = ap length (ahead_push_right w.frames i node.item o.before) ∙ length-append (ahead w.frames) (items o.before ++ (node.item ∷ [])) ∙ omega arith;
       }
 
 -- what a walk down with a path keeps
-pub record Walked {E S : Type 0} (empty : S) (whole : S → E → S → S) (nodes : List (Node E S)) (root link : Option ℕ) (steps : List Step) (In : ℕ → ℕ → Type 0) (len place rest : ℕ) (all t : Tree E) : Type 0 where
+pub record Walked {E S : Type 0} (empty : S) (whole : S → E → S → S) (nodes : List (Node E S)) (root link : Option ℕ) (steps : List Step) (In : ℕ → ℕ → Type 0) (place rest : ℕ) (all t : Tree E) : Type 0 where
   pub skipped : ℕ
-  pub way : Way empty whole nodes root link (take len steps) skipped all t
+  pub way : Way empty whole nodes root link steps skipped all t
   pub adds : skipped + rest ≡ place
   pub low : height all ≤ 32
-  pub long : length steps ≡ 32
-  pub fits : len ≤ 32
   pub within : In place (size all) → In rest (size t)
 
-module _ {E S : Type 0} {empty : S} {whole : S → E → S → S} {nodes : List (Node E S)} {root link : Option ℕ} {steps : List Step} {In : ℕ → ℕ → Type 0} {len place rest : ℕ} (w : Inside empty whole nodes root link (Walked empty whole nodes root link steps In len place rest)) {i : ℕ} {node : Node E S} (e : link ≡ Some i) (at : slice_get nodes i ≡ Some node) where
-  pub walk_room : len < 32
+module _ {E S : Type 0} {empty : S} {whole : S → E → S → S} {nodes : List (Node E S)} {root link : Option ℕ} {steps : List Step} {In : ℕ → ℕ → Type 0} {place rest : ℕ} (w : Inside empty whole nodes root link (Walked empty whole nodes root link steps In place rest)) {i : ℕ} {node : Node E S} (e : link ≡ Some i) (at : slice_get nodes i ≡ Some node) where
+  pub walk_room : length steps < 32
   walk_room =
       let k = w.kept in
       let o = inside_opened w i e node at in
@@ -64,37 +63,33 @@ module _ {E S : Type 0} {empty : S} {whole : S → E → S → S} {nodes : List 
       let p = ap height k.way.plugs in
       let b = ap height o.is in
       let n = steps_length k.way.frames in
-      let t = ap length k.way.traced ∙ length-take len steps in
+      let t = ap length k.way.traced in
       let l = k.low in
-      let f = k.fits in
-      let g = k.long in
       omega arith
 
-  pub walk_left : {more : List Step} {len' : ℕ} → take len' more ≡ take len steps ++ (record { slot = i; left = true } ∷ []) → len' ≡ len + 1 → length more ≡ 32 → (In rest (size w.rest) → In rest (size (inside_opened w i e node at).before)) → Inside empty whole nodes root node.left (Walked empty whole nodes root node.left more In len' place rest)
-  walk_left pushed one long within =
+  pub walk_left : {more : List Step} → more ≡ steps ++ (record { slot = i; side = Left } ∷ []) → (In rest (size w.rest) → In rest (size (inside_opened w i e node at).before)) → Inside empty whole nodes root node.left (Walked empty whole nodes root node.left more In place rest)
+  walk_left pushed within =
       let k = w.kept in
       let o = inside_opened w i e node at in
-      let room = walk_room in
       record {
         all = w.all;
         rest = o.before;
         all_held = w.all_held;
         rest_held = o.left;
-        kept = record { skipped = k.skipped; way = way_left k.way e at o pushed; adds = k.adds; low = k.low; long = long; fits = omega arith; within = λ h. within (k.within h) };
+        kept = record { skipped = k.skipped; way = way_left k.way e at o pushed; adds = k.adds; low = k.low; within = λ h. within (k.within h) };
       }
 
-  pub walk_right : {more : List Step} {len' : ℕ} (n : ℕ) → n ≡ size (inside_opened w i e node at).before → n < rest → take len' more ≡ take len steps ++ (record { slot = i; left = false } ∷ []) → len' ≡ len + 1 → length more ≡ 32 → (In rest (size w.rest) → In (rest - n - 1) (size (inside_opened w i e node at).after)) → Inside empty whole nodes root node.right (Walked empty whole nodes root node.right more In len' place (rest - n - 1))
-  walk_right n sized past pushed one long within =
+  pub walk_right : {more : List Step} (n : ℕ) → n ≡ size (inside_opened w i e node at).before → n < rest → more ≡ steps ++ (record { slot = i; side = Right } ∷ []) → (In rest (size w.rest) → In (rest - n - 1) (size (inside_opened w i e node at).after)) → Inside empty whole nodes root node.right (Walked empty whole nodes root node.right more In place (rest - n - 1))
+  walk_right n sized past pushed within =
       let k = w.kept in
       let o = inside_opened w i e node at in
-      let room = walk_room in
       let a = k.adds in
       record {
         all = w.all;
         rest = o.after;
         all_held = w.all_held;
         rest_held = o.right;
-        kept = record { skipped = k.skipped + n + 1; way = way_right k.way e at o n sized pushed; adds = omega arith; low = k.low; long = long; fits = omega arith; within = λ h. within (k.within h) };
+        kept = record { skipped = k.skipped + n + 1; way = way_right k.way e at o n sized pushed; adds = omega arith; low = k.low; within = λ h. within (k.within h) };
       }
 
   -- the size of the part, by its two sides
@@ -102,8 +97,8 @@ module _ {E S : Type 0} {empty : S} {whole : S → E → S → S} {nodes : List 
   sides = ap size (inside_opened w i e node at).is
 
 module _ {E S : Type 0} {empty : S} {whole : S → E → S → S} {nodes : List (Node E S)} {root : Option ℕ} where
-  pub walk_start : {steps : List Step} {In : ℕ → ℕ → Type 0} {len place : ℕ} (s : Shallow empty whole nodes root) → take len steps ≡ [] → len ≡ 0 → length steps ≡ 32 → Inside empty whole nodes root root (Walked empty whole nodes root root steps In len place place)
-  walk_start s none bare long = record {
+  pub walk_start : {steps : List Step} {In : ℕ → ℕ → Type 0} {place : ℕ} (s : Shallow empty whole nodes root) → steps ≡ [] → Inside empty whole nodes root root (Walked empty whole nodes root root steps In place place)
+  walk_start s none = record {
     all = s.tree;
     rest = s.tree;
     all_held = s.holds;
@@ -113,8 +108,6 @@ module _ {E S : Type 0} {empty : S} {whole : S → E → S → S} {nodes : List 
       way = record { frames = []; traced = sym none; around = λ must h. here; held = λ must h. h; plugs = refl; ahead_long = refl };
       adds = omega arith;
       low = s.low;
-      long = long;
-      fits = omega arith;
       within = λ h. h;
     };
   }

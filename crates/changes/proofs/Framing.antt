@@ -1,10 +1,12 @@
 -- Frames that grow and shrink at their hole, and what a write to a slot leaves as it was.
-use Rattle.std.proofs.Common.{◌≡◌, ℕ, zero, suc, ◌+◌, ◌<◌, ◌≤◌, Bool, true, false, cond, eqb, List, [], ◌∷◌, ◌++◌, length, set, Some, Option, sym, refl, ap, ◌∙◌, append_assoc, append-nil, arith}
+use Rattle.std.proofs.Common.{◌≡◌, ℕ, zero, suc, ◌+◌, ◌<◌, ◌≤◌, Bool, true, cond, eqb, List, [], ◌∷◌, ◌++◌, length, set, Some, Option, sym, refl, ap, ◌∙◌, append_assoc, append-nil, arith}
 use Rattle.std.proofs.lemmas.Bool.Decides.{nat_tests}
 use Rattle.nodes.specs.declared.node.Node.{Node}
 use Rattle.nodes.specs.Tree.{Tree, branch, items, size, height, summary, uses}
 use Rattle.std.specs.List.{slice_get}
 use Rattle.nodes.specs.Holding.{Holds, nothing, part}
+use Rattle.changes.specs.declared.path.Side.{Side}
+use Rattle.changes.specs.declared.path.Side.TheVariants.{Left, Right}
 use Rattle.changes.specs.Frames.{Frame, frame, step_of, steps_of, fill, plug, ahead, behind, frame_uses, toward, beside, Around, here, inside}
 
 -- writing to one place of a list
@@ -36,37 +38,37 @@ module _ {E : Type 0} where
 
   pub items_plug : (fs : List (Frame E)) (t : Tree E) → items (plug fs t) ≡ ahead fs ++ (items t ++ behind fs)
   items_plug [] t = sym (append-nil (items t))
-  items_plug (frame true slot item other ∷ fs) t = ap (λ l. l ++ (item ∷ items other)) (items_plug fs t) ∙ simp append_assoc
-  items_plug (frame false slot item other ∷ fs) t = ap (λ l. items other ++ (item ∷ l)) (items_plug fs t) ∙ sym (append_assoc (items other) (item ∷ ahead fs) (items t ++ behind fs))
+  items_plug (frame Left slot item other ∷ fs) t = ap (λ l. l ++ (item ∷ items other)) (items_plug fs t) ∙ simp append_assoc
+  items_plug (frame Right slot item other ∷ fs) t = ap (λ l. items other ++ (item ∷ l)) (items_plug fs t) ∙ sym (append_assoc (items other) (item ∷ ahead fs) (items t ++ behind fs))
 
   pub uses_plug : (k : ℕ) (fs : List (Frame E)) (t : Tree E) → uses k (plug fs t) ≡ frame_uses k fs + uses k t
   uses_plug k [] t = omega arith
-  uses_plug k (frame true slot item other ∷ fs) t = let r = uses_plug k fs t in omega arith
-  uses_plug k (frame false slot item other ∷ fs) t = let r = uses_plug k fs t in omega arith
+  uses_plug k (frame Left slot item other ∷ fs) t = let r = uses_plug k fs t in omega arith
+  uses_plug k (frame Right slot item other ∷ fs) t = let r = uses_plug k fs t in omega arith
 
-  pub frame_uses_push : (k : ℕ) (fs : List (Frame E)) (left : Bool) (slot : ℕ) (item : E) (other : Tree E) → frame_uses k (fs ++ (frame left slot item other ∷ [])) ≡ frame_uses k fs + (cond (eqb k slot) 1 0 + uses k other)
-  frame_uses_push k [] left slot item other = omega arith
-  frame_uses_push k (frame l s i o ∷ fs) left slot item other = let r = frame_uses_push k fs left slot item other in omega arith
+  pub frame_uses_push : (k : ℕ) (fs : List (Frame E)) (side : Side) (slot : ℕ) (item : E) (other : Tree E) → frame_uses k (fs ++ (frame side slot item other ∷ [])) ≡ frame_uses k fs + (cond (eqb k slot) 1 0 + uses k other)
+  frame_uses_push k [] side slot item other = omega arith
+  frame_uses_push k (frame l s i o ∷ fs) side slot item other = let r = frame_uses_push k fs side slot item other in omega arith
 
   pub size_plug : (fs : List (Frame E)) (t : Tree E) → size t ≤ size (plug fs t)
   size_plug [] t = omega arith
-  size_plug (frame true slot item other ∷ fs) t = let r = size_plug fs t in omega arith
-  size_plug (frame false slot item other ∷ fs) t = let r = size_plug fs t in omega arith
+  size_plug (frame Left slot item other ∷ fs) t = let r = size_plug fs t in omega arith
+  size_plug (frame Right slot item other ∷ fs) t = let r = size_plug fs t in omega arith
 
   pub height_plug : (fs : List (Frame E)) (t : Tree E) → length fs + height t ≤ height (plug fs t)
   height_plug [] t = omega arith
-  height_plug (frame true slot item other ∷ fs) t = let r = height_plug fs t in omega arith
-  height_plug (frame false slot item other ∷ fs) t = let r = height_plug fs t in omega arith
+  height_plug (frame Left slot item other ∷ fs) t = let r = height_plug fs t in omega arith
+  height_plug (frame Right slot item other ∷ fs) t = let r = height_plug fs t in omega arith
 
-  pub ahead_push : (fs : List (Frame E)) (slot : ℕ) (item : E) (other : Tree E) → ahead (fs ++ (frame true slot item other ∷ [])) ≡ ahead fs
+  pub ahead_push : (fs : List (Frame E)) (slot : ℕ) (item : E) (other : Tree E) → ahead (fs ++ (frame Left slot item other ∷ [])) ≡ ahead fs
   ahead_push [] slot item other = refl
-  ahead_push (frame true s i o ∷ fs) slot item other = ahead_push fs slot item other
-  ahead_push (frame false s i o ∷ fs) slot item other = ap (λ l. items o ++ (i ∷ l)) (ahead_push fs slot item other)
+  ahead_push (frame Left s i o ∷ fs) slot item other = ahead_push fs slot item other
+  ahead_push (frame Right s i o ∷ fs) slot item other = ap (λ l. items o ++ (i ∷ l)) (ahead_push fs slot item other)
 
-  pub ahead_push_right : (fs : List (Frame E)) (slot : ℕ) (item : E) (other : Tree E) → ahead (fs ++ (frame false slot item other ∷ [])) ≡ ahead fs ++ (items other ++ (item ∷ []))
+  pub ahead_push_right : (fs : List (Frame E)) (slot : ℕ) (item : E) (other : Tree E) → ahead (fs ++ (frame Right slot item other ∷ [])) ≡ ahead fs ++ (items other ++ (item ∷ []))
   ahead_push_right [] slot item other = refl
-  ahead_push_right (frame true s i o ∷ fs) slot item other = ahead_push_right fs slot item other
-  ahead_push_right (frame false s i o ∷ fs) slot item other = ap (λ l. items o ++ (i ∷ l)) (ahead_push_right fs slot item other) ∙ sym (append_assoc (items o) (i ∷ ahead fs) (items other ++ (item ∷ [])))
+  ahead_push_right (frame Left s i o ∷ fs) slot item other = ahead_push_right fs slot item other
+  ahead_push_right (frame Right s i o ∷ fs) slot item other = ap (λ l. items o ++ (i ∷ l)) (ahead_push_right fs slot item other) ∙ sym (append_assoc (items o) (i ∷ ahead fs) (items other ++ (item ∷ [])))
 
 -- a slot that a tree does not use is not its root's
 pub one_or_none : (k slot : ℕ) (r : ℕ) → cond (eqb k slot) 1 0 + r ≡ 0 → (slot ≡ k → ⊥) × (r ≡ 0)
@@ -90,9 +92,9 @@ module _ {E S : Type 0} {must : Bool} {empty : S} {whole : S → E → S → S} 
       inside node (nth_set_other nodes i slot n o.0 ∙ at) (held_set i n held (omega arith)) (around_set i n more (omega arith))
 
   -- one frame more
-  pub around_push : {root : Option ℕ} {fs : List (Frame E)} {slot : ℕ} (left : Bool) {other : Tree E} (node : Node E S) → Around must empty whole nodes root fs (Some slot) → slice_get nodes slot ≡ Some node → Holds must empty whole nodes (beside left node) other → Around must empty whole nodes root (fs ++ (frame left slot node.item other ∷ [])) (toward left node)
-  around_push left node here at held = inside node at held here
-  around_push left node (inside node' at' held' more) at held = inside node' at' held' (around_push left node more at held)
+  pub around_push : {root : Option ℕ} {fs : List (Frame E)} {slot : ℕ} (side : Side) {other : Tree E} (node : Node E S) → Around must empty whole nodes root fs (Some slot) → slice_get nodes slot ≡ Some node → Holds must empty whole nodes (beside side node) other → Around must empty whole nodes root (fs ++ (frame side slot node.item other ∷ [])) (toward side node)
+  around_push side node here at held = inside node at held here
+  around_push side node (inside node' at' held' more) at held = inside node' at' held' (around_push side node more at held)
 
 -- a node over two parts that do not use its slot
 pub placed : {E S : Type 0} {must : Bool} {empty : S} {whole : S → E → S → S} {nodes : List (Node E S)} (slot : ℕ) (node : Node E S) {before after : Tree E} → slot < length nodes → Holds must empty whole nodes node.left before → Holds must empty whole nodes node.right after → uses slot before ≡ 0 → uses slot after ≡ 0 → node.size ≡ suc (size before + size after) → (must ≡ true → node.sum ≡ whole (summary empty whole before) node.item (summary empty whole after)) → Holds must empty whole (set nodes slot node) (Some slot) (branch slot node.item before after)

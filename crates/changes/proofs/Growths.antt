@@ -1,11 +1,12 @@
 -- What a new leaf at the end of a way makes of the tree and of its list.
-use Rattle.std.proofs.Common.{◌≡◌, ℕ, suc, ◌+◌, ◌^◌, ◌<◌, ◌≤◌, Bool, true, false, List, [], ◌∷◌, ◌++◌, length, drop, Some, None, Option, sym, refl, ap, ◌∙◌, subst, arith, take_at, drop_at}
+use Rattle.std.proofs.Common.{◌≡◌, ℕ, suc, ◌+◌, ◌^◌, ◌<◌, ◌≤◌, Bool, List, [], ◌∷◌, ◌++◌, length, drop, Some, None, Option, sym, refl, ap, ◌∙◌, subst, arith, take_at, drop_at}
 use Rattle.std.proofs.lemmas.Bool.Decides.{nat_tests}
 use Rattle.nodes.specs.declared.node.Node.{Node}
 use Rattle.nodes.specs.Tree.{Tree, leaf, branch, items, size, uses}
 use Rattle.std.specs.List.{slice_get}
 use Rattle.nodes.specs.Holding.{Holds, nothing}
 use Rattle.changes.specs.declared.path.Step.{Step}
+use Rattle.changes.specs.declared.path.Side.TheVariants.{Left, Right}
 use Rattle.changes.specs.Frames.{Frame, frame, plug, ahead, behind, frame_uses, Around, Apart}
 use Rattle.changes.specs.Placed.{Placed}
 use Rattle.changes.specs.Grafted.{Graft, Grafted}
@@ -17,13 +18,13 @@ module _ {E : Type 0} where
   -- a part in the hole brings its own uses and its own size
   frame_size : List (Frame E) → ℕ
   frame_size [] = 0
-  frame_size (frame left slot item other ∷ fs) = suc (size other + frame_size fs)
+  frame_size (frame side slot item other ∷ fs) = suc (size other + frame_size fs)
 
   size_plugged : (fs : List (Frame E)) (t : Tree E) → size (plug fs t) ≡ frame_size fs + size t
   unfolding frame_size
   size_plugged [] t = omega arith
-  size_plugged (frame true slot item other ∷ fs) t = let r = size_plugged fs t in omega arith
-  size_plugged (frame false slot item other ∷ fs) t = let r = size_plugged fs t in omega arith
+  size_plugged (frame Left slot item other ∷ fs) t = let r = size_plugged fs t in omega arith
+  size_plugged (frame Right slot item other ∷ fs) t = let r = size_plugged fs t in omega arith
 
   pub size_swap : (fs : List (Frame E)) (t u : Tree E) → size (plug fs t) + size u ≡ size (plug fs u) + size t
   size_swap fs t u = let a = size_plugged fs t in let b = size_plugged fs u in omega arith

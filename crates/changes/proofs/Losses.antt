@@ -1,5 +1,5 @@
 -- What a tree and its list lose with a node that has at most one part.
-use Rattle.std.proofs.Common.{◌≡◌, ℕ, zero, suc, ◌+◌, ◌^◌, ◌<◌, ◌≤◌, max, Bool, true, false, cond, eqb, ◌⊎◌, List, [], ◌∷◌, ◌++◌, length, take, drop, set, Some, None, Option, sym, refl, ap, ◌∙◌, subst, inl, inr, append_assoc, append-nil, arith, length-take, take_at}
+use Rattle.std.proofs.Common.{◌≡◌, ℕ, zero, suc, ◌+◌, ◌^◌, ◌<◌, ◌≤◌, max, Bool, false, cond, eqb, ◌⊎◌, List, [], ◌∷◌, ◌++◌, length, drop, set, Some, None, Option, sym, refl, ap, ◌∙◌, subst, inl, inr, append_assoc, append-nil, arith, take_at}
 use Rattle.nodes.specs.declared.node.Node.{Node}
 use Rattle.nodes.specs.Tree.{Tree, leaf, branch, items, size, height, uses, before_of}
 use Rattle.std.specs.List.{slice_get}
@@ -7,6 +7,7 @@ use Rattle.nodes.specs.Holding.{size_at, Holds, nothing, part}
 use Rattle.nodes.proofs.Nths.{nth_within}
 use Rattle.nodes.proofs.Held.{size_is_length, held_leaf, held_within, stored_right}
 use Rattle.nodes.proofs.Fronts.{drop_past}
+use Rattle.changes.specs.declared.path.Side.TheVariants.{Left, Right}
 use Rattle.changes.specs.declared.path.Step.{Step}
 use Rattle.changes.specs.declared.found.Found.{Found}
 use Rattle.changes.specs.Frames.{Frame, frame, plug, ahead, behind, Apart}
@@ -23,8 +24,8 @@ use Rattle.changes.proofs.Swaps.{end, end_was, end_uses, around_item, front_long
 
 pub height_mono : {E : Type 0} (fs : List (Frame E)) (t u : Tree E) → height t ≤ height u → height (plug fs t) ≤ height (plug fs u)
 height_mono [] t u h = h
-height_mono (frame true slot item other ∷ fs) t u h = let r = height_mono fs t u h in omega arith
-height_mono (frame false slot item other ∷ fs) t u h = let r = height_mono fs t u h in omega arith
+height_mono (frame Left slot item other ∷ fs) t u h = let r = height_mono fs t u h in omega arith
+height_mono (frame Right slot item other ∷ fs) t u h = let r = height_mono fs t u h in omega arith
 
 -- what stays of a branch of which one side is empty
 pub record Rest {E : Type 0} (before after rest : Tree E) : Type 0 where
@@ -83,27 +84,23 @@ pub place_of : {E S : Type 0} {must : Bool} {empty : S} {whole : S → E → S �
 place_of {skipped = skipped} w at h e = ap (λ n. n + size (end w at h).before) w.ahead_long ∙ ap (λ u. skipped + size (before_of u)) (sym (end w at h).is) ∙ e
 
 -- where the walk to the first node has come to
-pub record Firsts {E S : Type 0} (empty : S) (whole : S → E → S → S) (nodes : List (Node E S)) (root : Option ℕ) (skipped : ℕ) (all : Tree E) (slot : ℕ) (steps : List Step) (len : ℕ) : Type 0 where
+pub record Firsts {E S : Type 0} (empty : S) (whole : S → E → S → S) (nodes : List (Node E S)) (root : Option ℕ) (skipped : ℕ) (all : Tree E) (slot : ℕ) (steps : List Step) : Type 0 where
   pub part : Tree E
-  pub way : Way empty whole nodes root (Some slot) (take len steps) skipped all part
-  pub fits : len ≤ 32
-  pub long : length steps ≡ 32
+  pub way : Way empty whole nodes root (Some slot) steps skipped all part
 
-module _ {E S : Type 0} {empty : S} {whole : S → E → S → S} {nodes : List (Node E S)} {root : Option ℕ} {skipped : ℕ} {all : Tree E} {slot : ℕ} {steps : List Step} {len : ℕ} (f : Firsts empty whole nodes root skipped all slot steps len) (h : Holds false empty whole nodes root all) where
+module _ {E S : Type 0} {empty : S} {whole : S → E → S → S} {nodes : List (Node E S)} {root : Option ℕ} {skipped : ℕ} {all : Tree E} {slot : ℕ} {steps : List Step} (f : Firsts empty whole nodes root skipped all slot steps) (h : Holds false empty whole nodes root all) where
   pub firsts_within : slot < length nodes
   firsts_within = held_within (f.way.held false h) slot refl
 
   module _ {node : Node E S} (at : slice_get nodes slot ≡ Some node) where
-    pub firsts_room : height all ≤ 32 → len < 32
+    pub firsts_room : height all ≤ 32 → length steps < 32
     firsts_room low =
         let o = end f.way at h in
         let p = height_plug f.way.frames f.part in
         let q = ap height f.way.plugs in
         let b = ap height o.is in
         let n = steps_length f.way.frames in
-        let t = ap length f.way.traced ∙ length-take len steps in
-        let g = f.fits in
-        let l = f.long in
+        let t = ap length f.way.traced in
         omega arith
 
     pub firsts_less : {i : ℕ} → node.left ≡ Some i → size_at nodes (Some i) < size_at nodes (Some slot)
@@ -113,11 +110,8 @@ module _ {E S : Type 0} {empty : S} {whole : S → E → S → S} {nodes : List 
         let c = ap (size_at nodes) (sym e) ∙ stored_right o.left in
         omega arith
 
-    pub firsts_left : {i : ℕ} {more : List Step} {len' : ℕ} → height all ≤ 32 → node.left ≡ Some i → take len' more ≡ take len steps ++ (record { slot = slot; left = true } ∷ []) → len' ≡ len + 1 → length more ≡ 32 → Firsts empty whole nodes root skipped all i more len'
-    firsts_left low e pushed one long =
-        let o = end f.way at h in
-        let r = firsts_room low in
-        record { part = o.before; way = way_for_link (way_left f.way refl at o pushed) e refl; fits = omega arith; long = long }
+    pub firsts_left : {i : ℕ} {more : List Step} → node.left ≡ Some i → more ≡ steps ++ (record { slot = slot; side = Left } ∷ []) → Firsts empty whole nodes root skipped all i more
+    firsts_left e pushed = let o = end f.way at h in record { part = o.before; way = way_for_link (way_left f.way refl at o pushed) e refl }
 
     pub firsts_bare : node.left ≡ None → before_of f.part ≡ leaf
     firsts_bare e = let o = end f.way at h in ap before_of o.is ∙ held_leaf o.left e
@@ -140,14 +134,14 @@ held_none nothing e = refl
 held_none (part node at left right sized summed) e = let z : ◌≡◌ {A = ℕ} 0 1 = cc in absurd (omega arith)
 
 module _ {E S : Type 0} {empty : S} {whole : S → E → S → S} {nodes : List (Node E S)} {root : Option ℕ} {place : ℕ} {all : Tree E} {found : Found} (l : Leads empty whole nodes root place all found) (h : Holds false empty whole nodes root all) {node : Node E S} (at : slice_get nodes found.slot ≡ Some node) where
-  firsts : Firsts empty whole nodes root l.skipped all found.slot found.path.steps found.path.len
-  firsts = record { part = l.part; way = l.way; fits = let a = l.path in let b = l.long in omega arith; long = l.long }
+  firsts : Firsts empty whole nodes root l.skipped all found.slot found.path
+  firsts = record { part = l.part; way = l.way }
 
-  pub leads_room : height all ≤ 32 → found.path.len < 32
+  pub leads_room : height all ≤ 32 → length found.path < 32
   leads_room low = firsts_room firsts h at low
 
   -- the way on to the part after the item
-  pub way_after : {next : ℕ} {steps : List Step} → node.right ≡ Some next → steps ≡ take found.path.len found.path.steps ++ (record { slot = found.slot; left = false } ∷ []) → Way empty whole nodes root (Some next) steps (suc place) all (end l.way at h).after
+  pub way_after : {next : ℕ} {steps : List Step} → node.right ≡ Some next → steps ≡ found.path ++ (record { slot = found.slot; side = Right } ∷ []) → Way empty whole nodes root (Some next) steps (suc place) all (end l.way at h).after
   way_after e pushed =
       let o = end l.way at h in
       let b : size (before_of l.part) ≡ size o.before = ap (λ u. size (before_of u)) o.is in
@@ -156,7 +150,7 @@ module _ {E S : Type 0} {empty : S} {whole : S → E → S → S} {nodes : List 
 
   -- the first node after it has the next place
   pub leads_next : {first : Found} → Leftmost empty whole nodes root (suc place) all first → Leads empty whole nodes root (suc place) all first
-  leads_next m = let z = ap size m.bare in record { part = m.part; skipped = suc place; way = m.way; at = omega arith; path = m.path; long = m.long }
+  leads_next m = let z = ap size m.bare in record { part = m.part; skipped = suc place; way = m.way; at = omega arith }
 
 pub next_bare : {E S : Type 0} {empty : S} {whole : S → E → S → S} {nodes : List (Node E S)} {root : Option ℕ} {skipped : ℕ} {all : Tree E} {first : Found} (m : Leftmost empty whole nodes root skipped all first) → Holds false empty whole nodes root all → {node : Node E S} → slice_get nodes first.slot ≡ Some node → node.left ≡ None
 next_bare m h at = let o = end m.way at h in held_none o.left (sym (ap before_of o.is) ∙ m.bare)

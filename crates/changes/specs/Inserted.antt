@@ -5,7 +5,6 @@ use Rattle.nodes.specs.Tree.{Tree, leaf, branch, items, size, height, uses}
 use Rattle.std.specs.List.{slice_get}
 use Rattle.nodes.specs.Holding.{Holds}
 use Rattle.changes.specs.declared.grown.Grown.{Grown}
-use Rattle.changes.specs.Trace.{trace}
 use Rattle.changes.specs.Frames.{Frame, steps_of, plug, ahead, Apart}
 
 -- the list with an item more, before the one at a place
@@ -26,8 +25,7 @@ pub record Room {E S : Type 0} (empty : S) (whole : S → E → S → S) (nodes 
 -- the new node is a leaf at the end of the path; the list has one item more; slots outside are as they were
 pub record Inserted {E S : Type 0} (must : Bool) (empty : S) (whole : S → E → S → S) (entry exit : List (Node E S)) (place slot : ℕ) (item : E) (t : Tree E) (r : Grown) : Type 0 where
   pub frames : List (Frame E)
-  pub traced : steps_of frames ≡ trace r.path.steps r.path.len
-  pub path : r.path.len ≤ length r.path.steps
+  pub traced : steps_of frames ≡ r.path
   pub was : plug frames leaf ≡ t
   pub holds : Holds must empty whole exit r.root (plug frames (branch slot item leaf leaf))
   pub lists : items (plug frames (branch slot item leaf leaf)) ≡ inserted place item (items t)

@@ -1,4 +1,3 @@
-pub mod Trace
 pub mod Frames
 pub mod Placed
 pub mod Grafted

@@ -1,12 +1,11 @@
 -- When a node may be taken out, and what that leaves.
-use Rattle.std.specs.Prelude.{◌≡◌, ℕ, suc, ◌+◌, ◌^◌, ◌<◌, ◌≤◌, Bool, false, cond, ◌⊎◌, List, ◌++◌, length, take, drop, Some, None, Option, ◌==◌}
+use Rattle.std.specs.Prelude.{◌≡◌, ℕ, suc, ◌+◌, ◌^◌, ◌<◌, ◌≤◌, Bool, false, cond, ◌⊎◌, List, ◌++◌, take, drop, Some, None, Option, ◌==◌}
 use Rattle.nodes.specs.declared.node.Node.{Node}
 use Rattle.nodes.specs.Tree.{Tree, leaf, items, size, height, uses, before_of}
 use Rattle.std.specs.List.{slice_get}
 use Rattle.nodes.specs.Holding.{Holds}
 use Rattle.changes.specs.declared.found.Found.{Found}
 use Rattle.changes.specs.declared.removed.Removed.{Removed}
-use Rattle.changes.specs.Trace.{trace}
 use Rattle.changes.specs.Frames.{Apart}
 use Rattle.changes.specs.Ways.{Way, Leads}
 
@@ -14,25 +13,21 @@ use Rattle.changes.specs.Ways.{Way, Leads}
 abbrev pub removed : {E : Type 0} → ℕ → List E → List E
 removed place list = take place list ++ drop (suc place) list
 
--- a path with room, to a part of a tree that is not too deep
+-- a path to a part of a tree that is not too deep
 pub record Beginning {E S : Type 0} (empty : S) (whole : S → E → S → S) (nodes : List (Node E S)) (from : Found) : Type 0 where
   pub root : Option ℕ
   pub skipped : ℕ
   pub all : Tree E
   pub part : Tree E
   pub holds : Holds false empty whole nodes root all
-  pub way : Way empty whole nodes root (Some from.slot) (trace from.path.steps from.path.len) skipped all part
+  pub way : Way empty whole nodes root (Some from.slot) from.path skipped all part
   pub low : height all ≤ 32
-  pub len : from.path.len ≤ 32
-  pub long : length from.path.steps ≡ 32
 
 -- the way to a node with no part before it, as many items on as the way began with
 pub record Leftmost {E S : Type 0} (empty : S) (whole : S → E → S → S) (nodes : List (Node E S)) (root : Option ℕ) (skipped : ℕ) (all : Tree E) (r : Found) : Type 0 where
   pub part : Tree E
-  pub way : Way empty whole nodes root (Some r.slot) (trace r.path.steps r.path.len) skipped all part
+  pub way : Way empty whole nodes root (Some r.slot) r.path skipped all part
   pub bare : before_of part ≡ leaf
-  pub path : r.path.len ≤ length r.path.steps
-  pub long : length r.path.steps ≡ 32
 
 -- the way to a node with this item that has at most one part, the one at the link
 pub record FoundWay {E S : Type 0} (empty : S) (whole : S → E → S → S) (nodes : List (Node E S)) (found : Found) (rest : Option ℕ) (item : E) : Type 0 where

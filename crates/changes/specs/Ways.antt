@@ -5,7 +5,6 @@ use Rattle.nodes.specs.Tree.{Tree, size, height, before_of}
 use Rattle.nodes.specs.Holding.{Holds}
 use Rattle.changes.specs.declared.path.Step.{Step}
 use Rattle.changes.specs.declared.found.Found.{Found}
-use Rattle.changes.specs.Trace.{trace}
 use Rattle.changes.specs.Frames.{Frame, steps_of, plug, ahead, Around}
 
 -- the slice holds some tree at the link, not too deep for a path
@@ -27,10 +26,8 @@ pub record Way {E S : Type 0} (empty : S) (whole : S → E → S → S) (nodes :
 pub record Leads {E S : Type 0} (empty : S) (whole : S → E → S → S) (nodes : List (Node E S)) (root : Option ℕ) (place : ℕ) (all : Tree E) (found : Found) : Type 0 where
   pub part : Tree E
   pub skipped : ℕ
-  pub way : Way empty whole nodes root (Some found.slot) (trace found.path.steps found.path.len) skipped all part
+  pub way : Way empty whole nodes root (Some found.slot) found.path skipped all part
   pub at : skipped + size (before_of part) ≡ place
-  pub path : found.path.len ≤ length found.path.steps
-  pub long : length found.path.steps ≡ 32
 
 -- none just past the end
 abbrev pub Reached : {E S : Type 0} → S → (S → E → S → S) → List (Node E S) → Option ℕ → ℕ → Tree E → Option Found → Type 0

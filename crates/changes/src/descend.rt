@@ -1,12 +1,11 @@
 // Going down to a place, with the way kept.
-ghost use Rattle.std.specs.Prelude.{◌≡◌, ◌≤◌, false, length, None};
+ghost use Rattle.std.specs.Prelude.{◌≡◌, ◌≤◌, false, None};
 ghost use Rattle.nodes.specs.Tree.{Tree, leaf, size};
 ghost use Rattle.nodes.specs.Holding.{Holds, size_at};
-ghost use Rattle.changes.specs.Trace.{trace};
 ghost use Rattle.changes.specs.Ways.{Shallow, Way, Reached};
 
 use crate::found::Found;
-use crate::path::{Path, Step};
+use crate::path::{NO_STEP, Path, Side, Step};
 use nodes::read::{read_at, size_of};
 use nodes::{Element, Node};
 
@@ -14,10 +13,9 @@ use nodes::{Element, Node};
 pub fn to_gap<E: Element>(nodes: &[Node<E, E::Sum>], root: Option<usize>, place: usize) -> Path
     requires shallow { Shallow E.empty E.whole nodes.now root }
     requires within { place ≤ size_at nodes.now root }
-    ensures way { (t : Tree E) → Holds false E.empty E.whole nodes.now root t → Way E.empty E.whole nodes.now root None (trace result.steps result.len) place t leaf }
-    ensures path { result.len ≤ length result.steps }
+    ensures { (t : Tree E) → Holds false E.empty E.whole nodes.now root t → Way E.empty E.whole nodes.now root None result place t leaf }
 {
-    let mut path = Path::new();
+    let mut path = Path::new(NO_STEP);
     let mut link = root;
     let mut rest = place;
     while let Some(i) = link {
@@ -26,13 +24,13 @@ pub fn to_gap<E: Element>(nodes: &[Node<E, E::Sum>], root: Option<usize>, place:
         if rest <= before {
             path.push(Step {
                 slot: i,
-                left: true,
+                side: Side::Left,
             });
             link = node.left;
         } else {
             path.push(Step {
                 slot: i,
-                left: false,
+                side: Side::Right,
             });
             link = node.right;
             rest = rest - before - 1;
@@ -50,7 +48,7 @@ pub fn to_item<E: Element>(
     requires { Shallow E.empty E.whole nodes.now root }
     ensures { (t : Tree E) → Holds false E.empty E.whole nodes.now root t → Reached E.empty E.whole nodes.now root place t result }
 {
-    let mut path = Path::new();
+    let mut path = Path::new(NO_STEP);
     let mut link = root;
     let mut rest = place;
     while let Some(i) = link {
@@ -59,7 +57,7 @@ pub fn to_item<E: Element>(
         if rest < before {
             path.push(Step {
                 slot: i,
-                left: true,
+                side: Side::Left,
             });
             link = node.left;
         } else if rest == before {
@@ -67,7 +65,7 @@ pub fn to_item<E: Element>(
         } else {
             path.push(Step {
                 slot: i,
-                left: false,
+                side: Side::Right,
             });
             link = node.right;
             rest = rest - before - 1;

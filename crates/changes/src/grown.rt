@@ -1,7 +1,7 @@
 // A tree that has a new node, with the way to it.
 use crate::path::Path;
 
-#[derive(Clone, Copy)]
+#[derive(Drop)]
 pub struct Grown {
     pub root: Option<usize>,
     pub path: Path,

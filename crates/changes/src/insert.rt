@@ -23,6 +23,6 @@ pub fn insert<E: Element>(
 {
     let path = to_gap::<E>(nodes, root, at);
     place::<E>(nodes, slot, item, None, None);
-    let root = graft::<E>(nodes, &path, Some(slot));
+    let root = graft::<E>(nodes, path.as_slice(), Some(slot));
     Grown { root, path }
 }

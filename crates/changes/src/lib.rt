@@ -14,5 +14,7 @@ pub mod remove;
 pub mod removed;
 pub mod replace;
 pub mod slots;
+pub mod stack;
 
-pub use path::{Path, Step};
+pub use path::{Path, Side, Step};
+pub use stack::Stack;

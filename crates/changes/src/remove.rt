@@ -5,14 +5,13 @@ ghost use Rattle.std.specs.List.{slice_get};
 ghost use Rattle.nodes.specs.Holding.{Holds};
 ghost use Rattle.changes.specs.Frames.{Apart};
 ghost use Rattle.changes.specs.Replaced.{Sound};
-ghost use Rattle.changes.specs.Trace.{trace};
 ghost use Rattle.changes.specs.Ways.{Way, Leads};
 ghost use Rattle.changes.specs.Removed.{FoundWay, TakenOut, TakesOut, Takes, Beginning, Leftmost, Inner};
 
 use crate::descend::to_item;
 use crate::found::Found;
 use crate::graft::graft;
-use crate::path::Step;
+use crate::path::{Side, Step};
 use crate::removed::Removed;
 use crate::replace::replace;
 use nodes::read::read_at;
@@ -21,12 +20,15 @@ use nodes::{Element, Node};
 // The first node of the part at the end of a path, and the way to it.
 fn to_first<E: Element>(nodes: &[Node<E, E::Sum>], from: Found) -> Found
     requires { Beginning E.empty E.whole nodes.now from }
-    ensures { (root : Option ℕ) (skipped : ℕ) (all t : Tree E) → Holds false E.empty E.whole nodes.now root all → height all ≤ 32 → Way E.empty E.whole nodes.now root (Some from.slot) (trace from.path.steps from.path.len) skipped all t → Leftmost E.empty E.whole nodes.now root skipped all result }
+    ensures { (root : Option ℕ) (skipped : ℕ) (all t : Tree E) → Holds false E.empty E.whole nodes.now root all → height all ≤ 32 → Way E.empty E.whole nodes.now root (Some from.slot) from.path skipped all t → Leftmost E.empty E.whole nodes.now root skipped all result }
 {
     let mut path = from.path;
     let mut slot = from.slot;
     while let Some(i) = read_at(nodes, slot).left {
-        path.push(Step { slot, left: true });
+        path.push(Step {
+            slot,
+            side: Side::Left,
+        });
         slot = i;
     }
     Found { path, slot }
@@ -42,7 +44,7 @@ fn take_out<E: Element>(
     requires { FoundWay E.empty E.whole nodes.old found.now rest item }
     ensures { (must : Bool) (root : Option ℕ) (place : ℕ) (t : Tree E) → Holds must E.empty E.whole nodes.old root t → Leads E.empty E.whole nodes.old root place t found.now → Apart t → size t < 2 ^ 64 → TakenOut must E.empty E.whole nodes.old nodes.new place t result }
 {
-    let root = graft::<E>(nodes, &found.path, rest);
+    let root = graft::<E>(nodes, found.path.as_slice(), rest);
     Removed {
         root,
         item,
@@ -63,19 +65,17 @@ fn remove_inner<E: Element>(
     let mut path = found.path;
     path.push(Step {
         slot: found.slot,
-        left: false,
+        side: Side::Right,
     });
     let first = to_first::<E>(nodes, Found { path, slot: next });
     let node = read_at(nodes, first.slot);
     let out = take_out::<E>(nodes, &first, node.right, node.item);
-    match replace::<E>(nodes, out.root, at, out.item) {
-        None => None,
-        Some(changed) => Some(Removed {
-            root: changed.root,
-            item: changed.item,
-            slot: out.slot,
-        }),
-    }
+    let changed = replace::<E>(nodes, out.root, at, out.item)?;
+    Some(Removed {
+        root: changed.root,
+        item: changed.item,
+        slot: out.slot,
+    })
 }
 
 // Takes out the item at a place; none, and nothing changed, past the end.
@@ -87,15 +87,10 @@ pub fn remove<E: Element>(
     requires { Sound E.empty E.whole nodes.old root }
     ensures { (must : Bool) (t : Tree E) → Holds must E.empty E.whole nodes.old root t → Takes must E.empty E.whole nodes.old nodes.new at t result }
 {
-    let Some(found) = to_item::<E>(nodes, root, at) else {
-        return None;
-    };
+    let found = to_item::<E>(nodes, root, at)?;
     let node = read_at(nodes, found.slot);
-    match node.left {
-        None => Some(take_out::<E>(nodes, &found, node.right, node.item)),
-        Some(_) => match node.right {
-            None => Some(take_out::<E>(nodes, &found, node.left, node.item)),
-            Some(next) => remove_inner::<E>(nodes, at, found, next),
-        },
+    match (node.left, node.right) {
+        (None, rest) | (rest, None) => Some(take_out::<E>(nodes, &found, rest, node.item)),
+        (Some(_), Some(next)) => remove_inner::<E>(nodes, at, found, next),
     }
 }

@@ -21,12 +21,10 @@ pub fn replace<E: Element>(
     requires { Sound E.empty E.whole nodes.old root }
     ensures { (must : Bool) (t : Tree E) → Holds must E.empty E.whole nodes.old root t → Replaced must E.empty E.whole nodes.old nodes.new at item t result }
 {
-    let Some(found) = to_item::<E>(nodes, root, at) else {
-        return None;
-    };
+    let found = to_item::<E>(nodes, root, at)?;
     let node = read_at(nodes, found.slot);
     place::<E>(nodes, found.slot, item, node.left, node.right);
-    let root = graft::<E>(nodes, &found.path, Some(found.slot));
+    let root = graft::<E>(nodes, found.path.as_slice(), Some(found.slot));
     Some(Changed {
         root,
         item: node.item,

@@ -1,11 +1,11 @@
-use Rattle.std.proofs.Common.{◌<◌, refl, ap, arith}
+use Rattle.std.proofs.Common.{lit≤, ◌<◌, refl, ap, arith}
 use Rattle.nodes.specs.Tree.{size}
 use Rattle.nodes.proofs.Held.{held_within, left_shaped, left_less, right_less, inside_opened, held_leaf, unique, stored_right}
 use Rattle.changes.proofs.Descents.{walk_room, walk_start, walk_left, walk_right, sides, way_for, way_for_link}
 use Rattle.changes.proofs.descend.to_gap.Goals as goal
 
 pub loop-link-init : goal.loop-link-init
-loop-link-init g c = walk_start c.requires.shallow c.new-path.ensures.none c.new-path.ensures.empty c.new-path.ensures.room
+loop-link-init g c = walk_start c.requires.shallow c.new-path.ensures
 
 pub read_at-node-requires : goal.read_at-node-requires
 read_at-node-requires g c = held_within c.loop-link.invariant.rest_held _ c.in-Some.is
@@ -14,10 +14,10 @@ pub size_of-before-requires : goal.size_of-before-requires
 size_of-before-requires g c = left_shaped c.loop-link.invariant _ c.in-Some.is _ c.read_at-node.ensures
 
 pub push-requires : goal.push-requires
-push-requires g c = record { room = walk_room c.loop-link.invariant c.in-Some.is c.read_at-node.ensures; long = c.loop-link.invariant.kept.long }
+push-requires g c = (lit≤ tt, walk_room c.loop-link.invariant c.in-Some.is c.read_at-node.ensures)
 
 pub push-requires-else-rest-before : goal.push-requires-else-rest-before
-push-requires-else-rest-before g c = record { room = walk_room c.loop-link.invariant c.in-Some.is c.read_at-node.ensures; long = c.loop-link.invariant.kept.long }
+push-requires-else-rest-before g c = (lit≤ tt, walk_room c.loop-link.invariant c.in-Some.is c.read_at-node.ensures)
 
 pub loop-link-smaller-then-rest-before : goal.loop-link-smaller-then-rest-before
 loop-link-smaller-then-rest-before g c = left_less c.loop-link.invariant _ c.in-Some.is _ c.read_at-node.ensures
@@ -29,18 +29,16 @@ pub loop-link-preserved-then-rest-before : goal.loop-link-preserved-then-rest-be
 loop-link-preserved-then-rest-before g c =
     let o = inside_opened c.loop-link.invariant _ c.in-Some.is _ c.read_at-node.ensures in
     let n = c.size_of-before.ensures _ o.left in
-    let p = c.push.ensures in
     let less = c.if-rest-before.true in
-    walk_left c.loop-link.invariant c.in-Some.is c.read_at-node.ensures p.more p.len p.long (λ h. omega arith)
+    walk_left c.loop-link.invariant c.in-Some.is c.read_at-node.ensures c.push.ensures (λ h. omega arith)
 
 pub loop-link-preserved : goal.loop-link-preserved
 loop-link-preserved g c =
     let o = inside_opened c.loop-link.invariant _ c.in-Some.is _ c.read_at-node.ensures in
     let n = c.size_of-before.ensures _ o.left in
-    let p = c.push-else-rest-before.ensures in
     let s = sides c.loop-link.invariant c.in-Some.is c.read_at-node.ensures in
     let more : c.size_of-before.result < c.loop-link.rest = omega arith in
-    walk_right c.loop-link.invariant c.in-Some.is c.read_at-node.ensures _ n more p.more p.len p.long (λ h. omega arith)
+    walk_right c.loop-link.invariant c.in-Some.is c.read_at-node.ensures _ n more c.push-else-rest-before.ensures (λ h. omega arith)
 
 pub returns : goal.returns
 returns g c =
@@ -52,7 +50,4 @@ returns g c =
     let in_all = c.requires.within in
     let in_rest = k.within (omega arith) in
     let a = k.adds in
-    record {
-      way = λ t h. way_for (way_for_link k.way c.in_default.is (unique inv.all_held h)) (omega arith) refl none;
-      path = let f = k.fits in let l = k.long in omega arith;
-    }
+    λ t h. way_for (way_for_link k.way c.in_default.is (unique inv.all_held h)) (omega arith) refl none

@@ -7,7 +7,7 @@ use Rattle.changes.proofs.descend.to_gap.Given as goal
 abbrev pub invariant-loop-link : goal.invariant-loop-link
 invariant-loop-link g l =
     let e = g.E.Element in
-    Inside e.empty e.whole l.nodes l.initial.link l.link (Walked e.empty e.whole l.nodes l.initial.link l.link l.path.steps ◌≤◌ l.path.len l.initial.rest l.rest)
+    Inside e.empty e.whole l.nodes l.initial.link l.link (Walked e.empty e.whole l.nodes l.initial.link l.link l.path ◌≤◌ l.initial.rest l.rest)
 
 abbrev pub decreases-loop-link : goal.decreases-loop-link
 decreases-loop-link g l = size_at l.nodes l.link

@@ -1,9 +1,9 @@
-use Rattle.std.proofs.Common.{arith}
+use Rattle.std.proofs.Common.{lit≤}
 use Rattle.changes.proofs.Losses.{firsts_within, firsts_room, firsts_less, firsts_left, firsts_bare}
 use Rattle.changes.proofs.remove.to_first.Goals as goal
 
 pub loop-i-init : goal.loop-i-init
-loop-i-init g c = λ root skipped all t h low w. record { part = t; way = w; fits = c.requires.len; long = c.requires.long }
+loop-i-init g c = λ root skipped all t h low w. record { part = t; way = w }
 
 pub read_at-requires : goal.read_at-requires
 read_at-requires g c = let p = c.requires in firsts_within (c.loop-i.invariant _ _ _ _ p.holds p.low p.way) p.holds
@@ -11,8 +11,7 @@ read_at-requires g c = let p = c.requires in firsts_within (c.loop-i.invariant _
 pub push-requires : goal.push-requires
 push-requires g c =
     let p = c.requires in
-    let f = c.loop-i.invariant _ _ _ _ p.holds p.low p.way in
-    record { room = firsts_room f p.holds c.read_at.ensures p.low; long = f.long }
+    (lit≤ tt, firsts_room (c.loop-i.invariant _ _ _ _ p.holds p.low p.way) p.holds c.read_at.ensures p.low)
 
 pub loop-i-smaller : goal.loop-i-smaller
 loop-i-smaller g c =
@@ -20,12 +19,9 @@ loop-i-smaller g c =
     firsts_less (c.loop-i.invariant _ _ _ _ p.holds p.low p.way) p.holds c.read_at.ensures c.in-Some.is
 
 pub loop-i-preserved : goal.loop-i-preserved
-loop-i-preserved g c = λ root skipped all t h low w.
-    let f = c.loop-i.invariant root skipped all t h low w in
-    let p = c.push.ensures in
-    firsts_left f h c.read_at.ensures low c.in-Some.is p.more p.len p.long
+loop-i-preserved g c = λ root skipped all t h low w. firsts_left (c.loop-i.invariant root skipped all t h low w) h c.read_at.ensures c.in-Some.is c.push.ensures
 
 pub returns : goal.returns
 returns g c = λ root skipped all t h low w.
     let f = c.loop-i.invariant root skipped all t h low w in
-    record { part = f.part; way = f.way; bare = firsts_bare f h c.read_at.ensures c.in_default.is; path = let a = f.fits in let b = f.long in omega arith; long = f.long }
+    record { part = f.part; way = f.way; bare = firsts_bare f h c.read_at.ensures c.in_default.is }

@@ -3,26 +3,26 @@ use Rattle.nodes.specs.Tree.{branch, items, size, before_of}
 use Rattle.std.specs.List.{slice_get}
 use Rattle.nodes.proofs.Held.{shaped, unique, held_within}
 use Rattle.changes.specs.Frames.{Apart, ahead}
-use Rattle.changes.specs.Ways.{Reached}
+use Rattle.changes.proofs.Grafts.{graft_along}
 use Rattle.changes.proofs.Swaps.{end, end_was, end_fits, swap_graft, swap_kept, swap_lists, swap_found}
 use Rattle.changes.proofs.replace.replace.Goals as goal
 
 pub to_item-requires : goal.to_item-requires
 to_item-requires g c = let r = c.requires in record { tree = r.tree; holds = r.holds; low = r.low }
 
-pub returns-in_default : goal.returns-in_default
-returns-in_default g c = λ must t h. let e = g.E.Element in (subst (Reached e.empty e.whole c.args.nodes.now c.args.root c.args.at t) c.in_default.is (c.to_item.ensures t (shaped h)), refl)
+pub returns-in_err-found : goal.returns-in_err-found
+returns-in_err-found g c = λ must t h. rw c.from_residual.ensures (c.in_err-found.ensures t (shaped h), refl)
 
 pub read_at-node-requires : goal.read_at-node-requires
 read_at-node-requires g c =
     let r = c.requires in
-    let l = c.in-Some.ensures r.tree r.holds in
+    let l = c.in_ok-found.ensures r.tree r.holds in
     held_within (l.way.held _ r.holds) _ refl
 
 pub place-requires : goal.place-requires
 place-requires g c =
     let r = c.requires in
-    let l = c.in-Some.ensures r.tree r.holds in
+    let l = c.in_ok-found.ensures r.tree r.holds in
     let o = end l.way c.read_at-node.ensures r.holds in
     record {
       within = held_within (l.way.held _ r.holds) _ refl;
@@ -34,12 +34,9 @@ place-requires g c =
 pub graft-root-requires : goal.graft-root-requires
 graft-root-requires g c =
     let r = c.requires in
-    let l = c.in-Some.ensures r.tree r.holds in
+    let l = c.in_ok-found.ensures r.tree r.holds in
     let o = end l.way c.read_at-node.ensures r.holds in
-    record {
-      parts = record { root = c.args.root; frames = l.way.frames; hole = Some c.in-Some.found.slot; part = branch c.in-Some.found.slot c.args.item o.before o.after; graft = swap_graft l.way c.read_at-node.ensures r.holds c.place.ensures r.apart r.fits };
-      path = l.path;
-    }
+    record { root = c.args.root; frames = l.way.frames; hole = Some c.in_ok-found.found.slot; part = branch c.in_ok-found.found.slot c.args.item o.before o.after; graft = graft_along c.as_slice.ensures.items (swap_graft l.way c.read_at-node.ensures r.holds c.place.ensures r.apart r.fits) }
 
 pub returns : goal.returns
 returns g c = λ must t h.
@@ -47,13 +44,13 @@ returns g c = λ must t h.
     let same = unique r.holds h in
     let apart = subst Apart same r.apart in
     let fits = subst (λ u. size u < 2 ^ 64) same r.fits in
-    let l = c.in-Some.ensures t (shaped h) in
+    let l = c.in_ok-found.ensures t (shaped h) in
     let o = end l.way c.read_at-node.ensures h in
     let was = end_was l.way c.read_at-node.ensures h in
-    let slot = c.in-Some.found.slot in
+    let slot = c.in_ok-found.found.slot in
     let old = c.read_at-node.result.item in
     let place : length (ahead l.way.frames) + size o.before ≡ c.args.at = ap (λ n. n + size o.before) l.way.ahead_long ∙ ap (λ u. l.skipped + size (before_of u)) (sym o.is) ∙ l.at in
-    let grafted = c.graft-root.ensures must _ _ l.way.frames _ (swap_graft l.way c.read_at-node.ensures h c.place.ensures apart fits) in
+    let grafted = c.graft-root.ensures must _ _ l.way.frames _ (graft_along c.as_slice.ensures.items (swap_graft l.way c.read_at-node.ensures h c.place.ensures apart fits)) in
     record {
       frames = l.way.frames;
       slot = slot;
