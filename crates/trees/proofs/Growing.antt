@@ -10,10 +10,10 @@ use Rattle.nodes.proofs.Held.{size_is_length, unique}
 use Rattle.changes.specs.Chains.{Chain, count}
 use Rattle.changes.proofs.Chaining.{chain_kept}
 use Rattle.balance.specs.Allowances.{part as share, whole as all}
-use Rattle.upkeep.specs.Allowances.{most_items}
-use Rattle.upkeep.proofs.Sides.{allowance_there, allowance_grows}
+use Rattle.balance.specs.Allowances.{most_items}
+use Rattle.balance.proofs.Sides.{allowance_there, allowance_grows}
 use Rattle.changes.proofs.Grafts.{own}
-use Rattle.upkeep.specs.declared.balanced.Balanced.{Balanced}
+use Rattle.scapegoat.specs.declared.balanced.Balanced.{Balanced}
 use Rattle.upkeep.specs.Growth.{Within, Grows, Fitting, Growth}
 use Rattle.trees.specs.declared.links.Links.{Links}
 use Rattle.trees.specs.Structures.{tree_of, listed, capacity_of, Laid, Structured}

@@ -10,6 +10,7 @@ use Rattle.nodes.specs.Holding.{Holds, nothing, part}
 use Rattle.nodes.proofs.Nths.{nth_within}
 use Rattle.nodes.proofs.Held.{size_is_length, unique}
 use Rattle.changes.specs.declared.changed.Changed.{Changed as Swap}
+use Rattle.changes.specs.declared.path.Side.TheVariants.{Left, Right}
 use Rattle.changes.specs.Frames.{Frame, frame, plug}
 use Rattle.changes.specs.Chains.{Chain, count}
 use Rattle.changes.specs.Replaced.{Sound, Swapped}
@@ -17,7 +18,7 @@ use Rattle.changes.proofs.Chaining.{chain_kept}
 use Rattle.changes.proofs.Grafts.{own}
 use Rattle.changes.proofs.Growths.{uses_swap, size_swap}
 use Rattle.balance.specs.Allowances.{part as share, whole as all}
-use Rattle.upkeep.specs.Allowances.{most_items}
+use Rattle.balance.specs.Allowances.{most_items}
 use Rattle.upkeep.specs.declared.shrunk.Shrunk.{Shrunk}
 use Rattle.upkeep.specs.Growth.{Within}
 use Rattle.upkeep.specs.Loss.{Shrinks, Shrinkable, Loss}
@@ -192,8 +193,8 @@ module _ {E S : Type 0} (empty : S) (whole : S → E → S → S) (entry : List 
 -- another item in a node leaves the tree as high as it was
 height_same : {E : Type 0} (fs : List (Frame E)) (t u : Tree E) → height t ≡ height u → height (plug fs t) ≡ height (plug fs u)
 height_same [] t u e = e
-height_same (frame true slot item other ∷ fs) t u e = let r = height_same fs t u e in omega arith
-height_same (frame false slot item other ∷ fs) t u e = let r = height_same fs t u e in omega arith
+height_same (frame Left slot item other ∷ fs) t u e = let r = height_same fs t u e in omega arith
+height_same (frame Right slot item other ∷ fs) t u e = let r = height_same fs t u e in omega arith
 
 module _ {E S : Type 0} (empty : S) (whole : S → E → S → S) (entry : List (Node E S)) (before : Links) (s : Structured entry before) (place : ℕ) (item : E) (exit : List (Node E S)) (long : length exit ≡ length entry) (r : Swap E) (swapped : (must : Bool) (t : Tree E) → Holds must empty whole entry before.root t → Swapped must empty whole entry exit place item t r) where
   abbrev pub other_root : Links

@@ -3,7 +3,7 @@ use Rattle.std.specs.Prelude.{◌≡◌, ℕ, ◌+◌, ◌≤◌, List, length, 
 use Rattle.nodes.specs.Tree.{Tree, size, before_of}
 use Rattle.changes.specs.Frames.{Frame, plug, ahead}
 use Rattle.balance.specs.Allowances.{part as share, whole as all}
-use Rattle.upkeep.specs.Allowances.{Allowance}
+use Rattle.balance.specs.Allowances.{Allowance}
 
 -- there are so many nodes on the way from the root to the item at a place, and no more than the allowance of m
 pub record Deep {E : Type 0} (t : Tree E) (m place depth : ℕ) : Type 0 where

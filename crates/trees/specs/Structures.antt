@@ -5,7 +5,7 @@ use Rattle.nodes.specs.Tree.{Tree, items, size, uses}
 use Rattle.nodes.specs.Holding.{Holds, tree_at}
 use Rattle.changes.specs.Chains.{Chain, count}
 use Rattle.balance.specs.Allowances.{part as share, whole as all}
-use Rattle.upkeep.specs.Allowances.{most_items}
+use Rattle.balance.specs.Allowances.{most_items}
 use Rattle.upkeep.specs.Growth.{Within}
 use Rattle.trees.specs.declared.links.Links.{Links}
 

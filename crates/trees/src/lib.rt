@@ -2,11 +2,10 @@
 
 #![tactic(auto)]
 
-pub mod insert_at;
+pub mod lent;
 pub mod links;
-pub mod making;
-pub mod reads;
+mod making;
 pub mod refusal;
-pub mod remove_at;
-pub mod replace_at;
 pub mod tree;
+
+pub use tree::Tree;

@@ -7,7 +7,7 @@ use changes::slots::release_all;
 use nodes::{Element, Node};
 
 // An empty tree in any memory; what the nodes held is forgotten.
-pub fn emptied<E: Element>(nodes: &mut [Node<E, E::Sum>]) -> Links
+pub(crate) fn emptied<E: Element>(nodes: &mut [Node<E, E::Sum>]) -> Links
     ensures { Emptied E.empty E.whole nodes.new result }
 {
     let free = release_all(nodes);

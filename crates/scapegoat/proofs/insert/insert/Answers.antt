@@ -8,16 +8,13 @@ use Rattle.scapegoat.proofs.Renewals.{grown_apart, grown_size}
 use Rattle.scapegoat.proofs.Depths.{settle_leaf, settle_rebuilt}
 use Rattle.scapegoat.proofs.insert.insert.Goals as goal
 
-pub insert-grown-requires : goal.insert-grown-requires
-insert-grown-requires g c = c.requires.room
-
 pub nearest_heavy-requires : goal.nearest_heavy-requires
 nearest_heavy-requires g c =
     let r = c.requires.room in
     let i = (c.insert-grown.ensures _ r.tree r.holds).inserted in
     let z = grown_size i.frames r.tree c.args.slot c.args.item i.was in
     let f = c.requires.few in
-    record { root = c.insert-grown.result.root; frames = i.frames; part = branch c.args.slot c.args.item leaf leaf; holds = i.holds; traced = i.traced ∙ sym c.as_slice-steps.ensures; one = refl; small = omega arith }
+    record { root = c.insert-grown.result.root; frames = i.frames; part = branch c.args.slot c.args.item leaf leaf; holds = i.holds; traced = i.traced ∙ sym c.as_slice-steps.ensures.items; one = refl; small = omega arith }
 
 pub rebuild_at-requires : goal.rebuild_at-requires
 rebuild_at-requires g c =
@@ -25,7 +22,7 @@ rebuild_at-requires g c =
     let i = (c.insert-grown.ensures _ r.tree r.holds).inserted in
     let z = grown_size i.frames r.tree c.args.slot c.args.item i.was in
     let f = c.requires.few in
-    let traced = i.traced ∙ sym c.as_slice-steps.ensures in
+    let traced = i.traced ∙ sym c.as_slice-steps.ensures.items in
     let n = c.in-Some.ensures _ i.frames (branch c.args.slot c.args.item leaf leaf) i.holds traced refl in
     let l = sym (steps_length i.frames) ∙ ap length traced in
     let w = n.0 in
@@ -35,7 +32,7 @@ pub returns-then-steps-allowed : goal.returns-then-steps-allowed
 returns-then-steps-allowed g c = λ must t h.
     let there = c.insert-grown.ensures must t h in
     let i = there.inserted in
-    let l = sym (steps_length i.frames) ∙ ap length (i.traced ∙ sym c.as_slice-steps.ensures) in
+    let l = sym (steps_length i.frames) ∙ ap length (i.traced ∙ sym c.as_slice-steps.ensures.items) in
     let a = c.if-steps-allowed.true in
     record { frames = i.frames; was = i.was; gap = there.gap; lists = i.lists; middle = c.insert-grown.new.nodes; rule = allowed_leaf (omega arith) refl refl i.holds; kept = i.kept; settled = λ m al few low. settle_leaf i.frames c.args.slot c.args.at c.args.item c.args.allowed t i.was i.lists (omega arith) i.holds low }
 
@@ -43,7 +40,7 @@ pub returns-in-None : goal.returns-in-None
 returns-in-None g c = λ must t h.
     let there = c.insert-grown.ensures must t h in
     let i = there.inserted in
-    let traced = i.traced ∙ sym c.as_slice-steps.ensures in
+    let traced = i.traced ∙ sym c.as_slice-steps.ensures.items in
     let l = sym (steps_length i.frames) ∙ ap length traced in
     let a = c.if-steps-allowed.false in
     let n = c.in-None.ensures _ i.frames (branch c.args.slot c.args.item leaf leaf) (shaped i.holds) traced refl in
@@ -55,7 +52,7 @@ returns-in-Some g c = λ must t h.
     let same = unique r.holds h in
     let there = c.insert-grown.ensures must t h in
     let i = there.inserted in
-    let traced = i.traced ∙ sym c.as_slice-steps.ensures in
+    let traced = i.traced ∙ sym c.as_slice-steps.ensures.items in
     let l = sym (steps_length i.frames) ∙ ap length traced in
     let a = c.if-steps-allowed.false in
     let n = c.in-Some.ensures _ i.frames (branch c.args.slot c.args.item leaf leaf) (shaped i.holds) traced refl in
