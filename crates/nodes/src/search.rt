@@ -2,7 +2,7 @@
 ghost use Rattle.std.specs.Prelude.{◌≡◌, ◌+◌, true, ◌||◌, take, drop};
 ghost use Rattle.nodes.specs.Tree.{Tree, items, size, summary, before_of, onward, up_to};
 ghost use Rattle.nodes.specs.Holding.{Holds};
-ghost use Rattle.nodes.specs.Hits.{passed, first_in, last_in, Lawful};
+ghost use Rattle.nodes.specs.Hits.{passed, first_in, last_in, rank_in, Lawful};
 
 use crate::element::Element;
 use crate::mark::Mark;
@@ -173,5 +173,13 @@ impl<'a, E: Element> Part<'a, E> {
             }
         }
         best?.last_back()
+    }
+
+    // How many items stand before the first hit, and the item there; all, and none, where there is no hit.
+    pub fn rank<P: Probe<E, E::Sum>>(&self, probe: P) -> (usize, Option<E>)
+        ensures { (t : Tree E) → Holds true E.empty E.whole self.now.nodes.now self.now.link t → Lawful E.empty E.whole P.rules probe (items t) → result ≡ rank_in P.rules probe (items t) }
+    {
+        let place = self.first_hit(probe, 0).unwrap_or(self.size());
+        (place, self.item_at(place))
     }
 }
