@@ -6,8 +6,7 @@ ghost use Rattle.changes.specs.Ways.{Shallow, Way, Reached};
 
 use crate::found::Found;
 use crate::path::{NO_STEP, Path, Side, Step};
-use nodes::read::{read_at, size_of};
-use nodes::{Element, Node};
+use nodes::{Element, Node, Part};
 
 // The way to the gap before the item at a place, or to the one at the end.
 pub fn to_gap<E: Element>(nodes: &[Node<E, E::Sum>], root: Option<usize>, place: usize) -> Path
@@ -16,23 +15,23 @@ pub fn to_gap<E: Element>(nodes: &[Node<E, E::Sum>], root: Option<usize>, place:
     ensures { (t : Tree E) → Holds false E.empty E.whole nodes.now root t → Way E.empty E.whole nodes.now root None result place t leaf }
 {
     let mut path = Path::new(NO_STEP);
-    let mut link = root;
+    let all = Part::<E> { nodes, link: root };
+    let mut part = all.again();
     let mut rest = place;
-    while let Some(i) = link {
-        let node = read_at(nodes, i);
-        let before = size_of::<E>(nodes, node.left);
+    while let Some(fork) = part.open() {
+        let before = fork.left.size();
         if rest <= before {
             path.push(Step {
-                slot: i,
+                slot: fork.slot,
                 side: Side::Left,
             });
-            link = node.left;
+            part = fork.left;
         } else {
             path.push(Step {
-                slot: i,
+                slot: fork.slot,
                 side: Side::Right,
             });
-            link = node.right;
+            part = fork.right;
             rest = rest - before - 1;
         }
     }
@@ -49,25 +48,28 @@ pub fn to_item<E: Element>(
     ensures { (t : Tree E) → Holds false E.empty E.whole nodes.now root t → Reached E.empty E.whole nodes.now root place t result }
 {
     let mut path = Path::new(NO_STEP);
-    let mut link = root;
+    let all = Part::<E> { nodes, link: root };
+    let mut part = all.again();
     let mut rest = place;
-    while let Some(i) = link {
-        let node = read_at(nodes, i);
-        let before = size_of::<E>(nodes, node.left);
+    while let Some(fork) = part.open() {
+        let before = fork.left.size();
         if rest < before {
             path.push(Step {
-                slot: i,
+                slot: fork.slot,
                 side: Side::Left,
             });
-            link = node.left;
+            part = fork.left;
         } else if rest == before {
-            return Some(Found { path, slot: i });
+            return Some(Found {
+                path,
+                slot: fork.slot,
+            });
         } else {
             path.push(Step {
-                slot: i,
+                slot: fork.slot,
                 side: Side::Right,
             });
-            link = node.right;
+            part = fork.right;
             rest = rest - before - 1;
         }
     }

@@ -3,8 +3,7 @@ ghost use Rattle.std.specs.Prelude.{◌≡◌, ◌+◌, ◌^◌, ◌<◌, length
 ghost use Rattle.nodes.specs.Holding.{Shaped, size_at};
 ghost use Rattle.changes.specs.Placed.{Placed};
 
-use nodes::read::{size_of, sum_of};
-use nodes::{Element, Node};
+use nodes::{Element, Node, Part};
 
 pub fn write_at<T: Copy>(slice: &mut [T], i: usize, value: T)
     requires { i < length slice.old }
@@ -27,10 +26,16 @@ pub fn place<E: Element>(
     requires fits { size_at nodes.old left + size_at nodes.old right + 1 < 2 ^ 64 }
     ensures { Placed E.empty E.whole nodes.old nodes.new slot item left right }
 {
-    let size = size_of::<E>(nodes, left) + size_of::<E>(nodes, right) + 1;
-    let before = sum_of::<E>(nodes, left);
-    let after = sum_of::<E>(nodes, right);
-    let sum = E::join(&before, &item, &after);
+    let before = Part::<E> {
+        nodes: &*nodes,
+        link: left,
+    };
+    let after = Part::<E> {
+        nodes: &*nodes,
+        link: right,
+    };
+    let size = before.size() + after.size() + 1;
+    let sum = E::join(&before.sum(), &item, &after.sum());
     write_at(
         nodes,
         slot,

@@ -1,53 +1,33 @@
-use Rattle.std.proofs.Common.{lit≤, ◌<◌, refl, ap, arith}
+use Rattle.std.proofs.Common.{◌<◌, lit≤, refl, ap, arith}
 use Rattle.nodes.specs.Tree.{size}
-use Rattle.nodes.proofs.Held.{held_within, left_shaped, left_less, right_less, inside_opened, held_leaf, unique, stored_right}
-use Rattle.changes.proofs.Descents.{walk_room, walk_start, walk_left, walk_right, sides, way_for, way_for_link}
+use Rattle.nodes.proofs.Held.{unique, stored_right}
+use Rattle.changes.proofs.Descents.{way_for, way_for_link, walk_start, walk_bare, walk_room, walk_left, walk_right}
 use Rattle.changes.proofs.descend.to_gap.Goals as goal
 
-pub loop-link-init : goal.loop-link-init
-loop-link-init g c = walk_start c.requires.shallow c.new-path.ensures
-
-pub read_at-node-requires : goal.read_at-node-requires
-read_at-node-requires g c = held_within c.loop-link.invariant.rest_held _ c.in-Some.is
-
-pub size_of-before-requires : goal.size_of-before-requires
-size_of-before-requires g c = left_shaped c.loop-link.invariant _ c.in-Some.is _ c.read_at-node.ensures
+pub loop-fork-init : goal.loop-fork-init
+loop-fork-init g c = walk_start c.requires.shallow c.again-part.ensures.nodes c.again-part.ensures.link c.new-path.ensures
 
 pub push-requires : goal.push-requires
-push-requires g c = (lit≤ tt, walk_room c.loop-link.invariant c.in-Some.is c.read_at-node.ensures)
+push-requires g c = (lit≤ tt, walk_room c.loop-fork.invariant c.in-Some.ensures)
 
 pub push-requires-else-rest-before : goal.push-requires-else-rest-before
-push-requires-else-rest-before g c = (lit≤ tt, walk_room c.loop-link.invariant c.in-Some.is c.read_at-node.ensures)
+push-requires-else-rest-before g c = (lit≤ tt, walk_room c.loop-fork.invariant c.in-Some.ensures)
 
-pub loop-link-smaller-then-rest-before : goal.loop-link-smaller-then-rest-before
-loop-link-smaller-then-rest-before g c = left_less c.loop-link.invariant _ c.in-Some.is _ c.read_at-node.ensures
+pub loop-fork-preserved-then-rest-before : goal.loop-fork-preserved-then-rest-before
+loop-fork-preserved-then-rest-before g c = walk_left c.loop-fork.invariant c.in-Some.ensures c.size-before.ensures.stored c.push.ensures c.if-rest-before.true
 
-pub loop-link-smaller : goal.loop-link-smaller
-loop-link-smaller g c = right_less c.loop-link.invariant _ c.in-Some.is _ c.read_at-node.ensures
-
-pub loop-link-preserved-then-rest-before : goal.loop-link-preserved-then-rest-before
-loop-link-preserved-then-rest-before g c =
-    let o = inside_opened c.loop-link.invariant _ c.in-Some.is _ c.read_at-node.ensures in
-    let n = c.size_of-before.ensures _ o.left in
-    let less = c.if-rest-before.true in
-    walk_left c.loop-link.invariant c.in-Some.is c.read_at-node.ensures c.push.ensures (λ h. omega arith)
-
-pub loop-link-preserved : goal.loop-link-preserved
-loop-link-preserved g c =
-    let o = inside_opened c.loop-link.invariant _ c.in-Some.is _ c.read_at-node.ensures in
-    let n = c.size_of-before.ensures _ o.left in
-    let s = sides c.loop-link.invariant c.in-Some.is c.read_at-node.ensures in
-    let more : c.size_of-before.result < c.loop-link.rest = omega arith in
-    walk_right c.loop-link.invariant c.in-Some.is c.read_at-node.ensures _ n more c.push-else-rest-before.ensures (λ h. omega arith)
+pub loop-fork-preserved : goal.loop-fork-preserved
+loop-fork-preserved g c =
+    let past : c.size-before.result < c.loop-fork.rest = c.if-rest-before.false in
+    walk_right c.loop-fork.invariant c.in-Some.ensures c.size-before.ensures.stored past c.push-else-rest-before.ensures (λ h. omega arith)
 
 pub returns : goal.returns
-returns g c =
-    let inv = c.loop-link.invariant in
-    let k = inv.kept in
-    let none = held_leaf inv.rest_held c.in_default.is in
+returns g c = λ t h.
+    let w = c.loop-fork.invariant in
+    let none = walk_bare w c.in_default.ensures in
     let small = ap size none in
-    let total = stored_right inv.all_held in
+    let total = stored_right w.all_held in
     let in_all = c.requires.within in
-    let in_rest = k.within (omega arith) in
-    let a = k.adds in
-    λ t h. way_for (way_for_link k.way c.in_default.is (unique inv.all_held h)) (omega arith) refl none
+    let in_rest = w.within (omega arith) in
+    let a = w.adds in
+    way_for (way_for_link w.way c.in_default.ensures (unique w.all_held h)) (omega arith) refl none
