@@ -2,4 +2,3 @@ pub mod Ahead
 pub mod ByReplay
 pub mod Placed
 pub mod RackRules
-pub mod Walks

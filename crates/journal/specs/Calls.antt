@@ -1,5 +1,5 @@
 -- The calls of a book's life: the reply that is defined for each, and the journal after it.
-use Rattle.std.specs.Prelude.{ℕ, Bool, cond, List, [], ◌∷◌, length, Some, None, Option, nat_le}
+use Rattle.std.specs.Prelude.{ℕ, Bool, cond, List, [], ◌∷◌, length, Some, None, Ok, Err, Option, Result, nat_le}
 use Rattle.std.specs.List.{slice_get}
 use Rattle.orders.specs.Refusal.{Told, told, refused}
 use Rattle.journal.specs.declared.folder.Folder.{Folder}
@@ -11,6 +11,7 @@ use Rattle.journal.specs.declared.call.Standing.{Standing}
 use Rattle.journal.specs.declared.call.Standing.TheVariants as standing
 use Rattle.journal.specs.declared.call.Reply.{Reply}
 use Rattle.journal.specs.declared.call.Reply.TheVariants as reply
+use Rattle.journal.specs.declared.refusal.Refusal.{Refusal}
 use Rattle.journal.specs.Folders.{has_stamp}
 use Rattle.journal.specs.Replay.{struck, dated, waiting, stood, first_unserved}
 use Rattle.journal.specs.Movers.{entry_at, arrival_mover, taking_mover}
@@ -27,14 +28,14 @@ pub data Answer (P : Type 0) : Type 0 where
   stood_there : List (Folder P) → Answer P
 
 -- what a reply tells, where the spare rack now holds these folders; a refusal is told by its number and its values
-abbrev pub told_by : {P : Type 0} → Reply P → List (Folder P) → Told (Answer P)
-told_by (reply.Joined f) spare = told (joined f)
-told_by (reply.Left f) spare = told (left f)
-told_by (reply.Count n) spare = told (counted n)
-told_by (reply.At o) spare = told (waits_at o)
-told_by (reply.Standing s) spare = told (standing_is s)
-told_by reply.Stood spare = told (stood_there spare)
-told_by (reply.Refused r) spare = refused (book_refusal r).0 (book_refusal r).1
+abbrev pub told_by : {P : Type 0} → Result (Reply P) Refusal → List (Folder P) → Told (Answer P)
+told_by (Ok (reply.Joined f)) spare = told (joined f)
+told_by (Ok (reply.Left f)) spare = told (left f)
+told_by (Ok (reply.Count n)) spare = told (counted n)
+told_by (Ok (reply.At o)) spare = told (waits_at o)
+told_by (Ok (reply.Standing s)) spare = told (standing_is s)
+told_by (Ok reply.Stood) spare = told (stood_there spare)
+told_by (Err why) spare = refused (book_refusal why).0 (book_refusal why).1
 
 -- what follows from what is told; a refusal stays
 abbrev pub and_so : {A B : Type 0} → Told A → (A → Told B) → Told B

@@ -1,6 +1,5 @@
 // The calls of a book's life, and the replies to them.
 use crate::folder::Folder;
-use crate::refusal::Refusal;
 
 // What a book may be asked: three corrections of its journal, then four questions.
 #[derive(Clone, Copy)]
@@ -30,7 +29,7 @@ pub enum Standing {
     Taking,
 }
 
-// What a book replies.
+// What a book replies where it does not refuse: its whole reply is a `Result<Reply<P>, Refusal>`.
 #[derive(Clone, Copy)]
 pub enum Reply<P> {
     // the folder that a correction moved onto the waiting list
@@ -42,5 +41,4 @@ pub enum Reply<P> {
     Standing(Standing),
     // what stood is on the spare rack now
     Stood,
-    Refused(Refusal),
 }

@@ -1,6 +1,10 @@
 // What a call may be refused for; docs/RULES.md lists the numbers.
-ghost use Rattle.std.specs.Prelude.{◌≡◌};
+ghost use Rattle.std.specs.Prelude.{◌≡◌, Some};
+ghost use Rattle.orders.specs.Refusal.{refusal_text};
 ghost use Rattle.journal.specs.Refusals.{raised, book_refusal};
+
+use std::error::Error;
+use std::fmt;
 
 // Why a rack or a date line does not change.
 #[derive(Clone, Copy, PartialEq, Eq, Debug)]
@@ -39,6 +43,20 @@ impl Refusal {
         }
     }
 }
+
+impl fmt::Display for Refusal {
+    ghost output = { λ r. Some (refusal_text (book_refusal r)) };
+
+    fn fmt<W: fmt::Write>(&self, f: &mut fmt::Formatter<W>) -> fmt::Result {
+        let number = self.number();
+        match self {
+            Refusal::NoFolder(stamp) => write!(f, "refused {number} {stamp}"),
+            _ => write!(f, "refused {number}"),
+        }
+    }
+}
+
+impl Error for Refusal {}
 
 // A book's rack and date line refuse for the book's own reasons.
 impl From<ListRefusal> for Refusal {

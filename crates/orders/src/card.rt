@@ -73,13 +73,7 @@ impl Priority for Card {
     ghost unseen = { Prim.search rules };
 
     fn not_behind(&self, other: &Card) -> bool {
-        if self.day() != other.day() {
-            self.day() < other.day()
-        } else if self.class() != other.class() {
-            self.class() < other.class()
-        } else {
-            self.name() <= other.name()
-        }
+        (self.day(), self.class(), self.name()) <= (other.day(), other.class(), other.name())
     }
 
     fn canonical(&self) -> Card {
@@ -91,7 +85,7 @@ impl Priority for Card {
     }
 }
 
-// Two cards are equal where they mean the same.
+// Two cards are equal where they mean the same. By hand: a derive would tell apart two held classes above the bound.
 impl PartialEq for Card {
     ghost eq = { card_equals };
 
@@ -115,8 +109,8 @@ impl Written for Card {
     ghost only = { card_only };
 
     fn write(&self) -> [u8; 12] {
-        let d = two_bytes(self.day());
-        joined(d[0], d[1], self.class(), 0, self.name())
+        let [high, low] = two_bytes(self.day());
+        joined([high, low, self.class(), 0], self.name())
     }
 
     fn read(bytes: &[u8; 12]) -> Result<Card, PriorityFault> {
@@ -136,122 +130,28 @@ mod tests {
     use super::*;
     use std::test::Fail;
 
-    fn card(day: u16, class: u8, name: u64) -> Card {
+    // A card as held: its day, class and name.
+    type Held = (u16, u8, u64);
+
+    fn card((day, class, name): Held) -> Card {
         Card { day, class, name }
     }
 
-    // Two cards as held; whether the first is not behind the second, the second not behind the first, and the two are the same.
-    const PAIRS: [(Card, Card, bool, bool, bool); 7] = [
-        (
-            Card {
-                day: 3,
-                class: 2,
-                name: 9,
-            },
-            Card {
-                day: 3,
-                class: 2,
-                name: 9,
-            },
-            true,
-            true,
-            true,
-        ),
-        (
-            Card {
-                day: 0,
-                class: 9,
-                name: 9,
-            },
-            Card {
-                day: 1,
-                class: 0,
-                name: 0,
-            },
-            true,
-            false,
-            false,
-        ),
-        (
-            Card {
-                day: 3,
-                class: 2,
-                name: 9,
-            },
-            Card {
-                day: 3,
-                class: 3,
-                name: 0,
-            },
-            true,
-            false,
-            false,
-        ),
-        (
-            Card {
-                day: 3,
-                class: 2,
-                name: 9,
-            },
-            Card {
-                day: 3,
-                class: 2,
-                name: 8,
-            },
-            false,
-            true,
-            false,
-        ),
-        (
-            Card {
-                day: 65_535,
-                class: 0,
-                name: 0,
-            },
-            Card {
-                day: 0,
-                class: 15,
-                name: u64::MAX,
-            },
-            false,
-            true,
-            false,
-        ),
-        (
-            Card {
-                day: 3,
-                class: 200,
-                name: 9,
-            },
-            Card {
-                day: 3,
-                class: 15,
-                name: 9,
-            },
-            true,
-            true,
-            true,
-        ),
-        (
-            Card {
-                day: 3,
-                class: 200,
-                name: 9,
-            },
-            Card {
-                day: 3,
-                class: 16,
-                name: 8,
-            },
-            false,
-            true,
-            false,
-        ),
+    // Two held cards; whether the first is not behind the second, the second not behind the first, and the two are the same.
+    const PAIRS: [(Held, Held, bool, bool, bool); 7] = [
+        ((3, 2, 9), (3, 2, 9), true, true, true),
+        ((0, 9, 9), (1, 0, 0), true, false, false),
+        ((3, 2, 9), (3, 3, 0), true, false, false),
+        ((3, 2, 9), (3, 2, 8), false, true, false),
+        ((65_535, 0, 0), (0, 15, u64::MAX), false, true, false),
+        ((3, 200, 9), (3, 15, 9), true, true, true),
+        ((3, 200, 9), (3, 16, 8), false, true, false),
     ];
 
     #[test]
     fn compares(rt: HostRuntime) {
         for (a, b, first, second, same) in PAIRS {
+            let (a, b) = (card(a), card(b));
             assert_eq!(rt; a.not_behind(&b), first);
             assert_eq!(rt; b.not_behind(&a), second);
             assert_eq!(rt; a == b, same);
@@ -261,31 +161,13 @@ mod tests {
     const NAME: u64 = 0x6162_6364_6566_6768;
 
     // A held card, its written form.
-    const FORMS: [(Card, [u8; 12]); 3] = [
+    const FORMS: [(Held, [u8; 12]); 3] = [
+        ((0, 0, 0), [0; 12]),
         (
-            Card {
-                day: 0,
-                class: 0,
-                name: 0,
-            },
-            [0; 12],
-        ),
-        (
-            Card {
-                day: 0x0102,
-                class: 7,
-                name: NAME,
-            },
+            (0x0102, 7, NAME),
             [1, 2, 7, 0, b'a', b'b', b'c', b'd', b'e', b'f', b'g', b'h'],
         ),
-        (
-            Card {
-                day: 65_535,
-                class: 99,
-                name: 1,
-            },
-            [0xff, 0xff, 15, 0, 0, 0, 0, 0, 0, 0, 0, 1],
-        ),
+        ((65_535, 99, 1), [0xff, 0xff, 15, 0, 0, 0, 0, 0, 0, 0, 0, 1]),
     ];
 
     // Twelve bytes that write no card.
@@ -296,7 +178,8 @@ mod tests {
 
     #[test]
     fn written(rt: HostRuntime) -> Result<(), Fail> {
-        for (card, bytes) in FORMS {
+        for (held, bytes) in FORMS {
+            let card = card(held);
             assert_eq!(rt; card.write(), bytes);
             assert_eq!(rt; <Card as Written>::read(&bytes)?, card);
         }
@@ -305,7 +188,7 @@ mod tests {
         }
         assert!(rt; Card::new(65_536, 0, 0).is_err());
         assert!(rt; Card::new(0, 16, 0).is_err());
-        assert_eq!(rt; Card::new(0, 15, 3)?, card(0, 15, 3));
+        assert_eq!(rt; Card::new(0, 15, 3)?, card((0, 15, 3)));
         Ok(())
     }
 }

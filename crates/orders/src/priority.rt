@@ -1,6 +1,9 @@
 // The interface of a lawful order.
-ghost use Rattle.std.specs.Prelude.{◌≡◌, Bool, true, false};
-ghost use Rattle.orders.specs.Refusal.{priority_refusal};
+ghost use Rattle.std.specs.Prelude.{◌≡◌, Bool, true, false, Some};
+ghost use Rattle.orders.specs.Refusal.{priority_refusal, refusal_text};
+
+use std::error::Error;
+use std::fmt;
 
 // A kind of priority, by the one question that a lawful order answers.
 // The laws hold of every value of the type, also of those that no making gives out.
@@ -42,3 +45,13 @@ impl PriorityFault {
         }
     }
 }
+
+impl fmt::Display for PriorityFault {
+    ghost output = { λ e. Some (refusal_text (priority_refusal e)) };
+
+    fn fmt<W: fmt::Write>(&self, f: &mut fmt::Formatter<W>) -> fmt::Result {
+        write!(f, "refused {}", self.number())
+    }
+}
+
+impl Error for PriorityFault {}

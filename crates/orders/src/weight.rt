@@ -59,7 +59,7 @@ impl Priority for Weight {
     }
 }
 
-// Two weights are equal where they mean the same.
+// Two weights are equal where they mean the same. By hand: a derive would tell apart two held numbers above the bound.
 impl PartialEq for Weight {
     ghost eq = { weight_equals };
 
@@ -83,7 +83,7 @@ impl Written for Weight {
     ghost only = { weight_only };
 
     fn write(&self) -> [u8; 12] {
-        joined(0, 0, 0, 0, self.bytes())
+        joined([0; 4], self.bytes())
     }
 
     fn read(bytes: &[u8; 12]) -> Result<Weight, PriorityFault> {

@@ -1,3 +1,2 @@
-pub mod Leading
+pub mod Found
 pub mod Rotated
-pub mod Walked

@@ -13,7 +13,6 @@ module _ {X : Type 0} (xs : List X) (n place : ℕ) where
       let front : length (take n xs) ≡ n = length-take n xs ∙ omega arith in
       let part : take (n + 1 - place) (drop place (set xs n x)) ≡ drop place (take n xs) ++ x ∷ [] =
       between_is (set xs n x) place (n + 1) ∙ ap (drop place) (take_more_set xs n x lt) ∙ drop-append-le place (take n xs) (x ∷ []) (omega arith) in
-      let m : List X = drop place (take n xs) in
       let short : length (take (n + 1 - place) (drop place (set xs n x))) - 1 ≡ length (drop place (take n xs)) =
       ap (λ (l : List X). length l - 1) part ∙ ap (λ k. k - 1) (length-append (drop place (take n xs)) (x ∷ [])) ∙ omega arith in
       e
@@ -37,7 +36,6 @@ module _ {X : Type 0} (xs : List X) (n place : ℕ) where
       → ys ≡ drop 1 (take (n - place) (drop place xs)) ++ take 1 (take (n - place) (drop place xs))
       → take (n - 1) (put_mid place (n - place) xs ys) ≡ take place (take n xs) ++ drop (place + 1) (take n xs)
   rotated_out ys lt le e =
-      let m : List X = drop place (take n xs) in
       let is : ys ≡ drop 1 (drop place (take n xs)) ++ take 1 (drop place (take n xs)) = e ∙ ap (λ (l : List X). drop 1 l ++ take 1 l) (between_is xs place n) in
       let front : length (take n xs) ≡ n = length-take n xs ∙ omega arith in
       let rest : length (drop place (take n xs)) ≡ n - place = length-drop place (take n xs) ∙ ap (λ k. k - place) front in

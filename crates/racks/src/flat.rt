@@ -1,6 +1,6 @@
 // The flat rack: folders in order in lent slots.
 ghost use Rattle.std.specs.Prelude.{◌≡◌, ◌+◌, ◌-◌, ◌≤◌, not, [], length, take, is_ok, if◌then◌else◌};
-ghost use Rattle.std.specs.List.{prefix_len};
+ghost use Rattle.std.specs.List.{position, prefix_len};
 ghost use Rattle.orders.specs.Refusal.{reply};
 ghost use Rattle.journal.specs.Folders.{ahead};
 ghost use Rattle.journal.specs.Racks.{same_key, Changed, put_rule, remove_rule};
@@ -24,27 +24,19 @@ pub struct FlatRack<'a, P> {
 // How many of the first n folders stand before the first that the folder is ahead of.
 fn place_for<P: Priority>(slots: &[Folder<P>], n: usize, folder: &Folder<P>) -> usize
     requires { n ≤ length slots.now }
-    ensures { result ≡ prefix_len (λ g. not (ahead P.Priority.not_behind folder.now g)) (take n slots.now) }
+    ensures value { result ≡ prefix_len (λ g. not (ahead P.Priority.not_behind folder.now g)) (take n slots.now) }
+    ensures bound { result ≤ n }
 {
-    for i in 0..n {
-        if folder.is_ahead_of(&slots[i]) {
-            return i;
-        }
-    }
-    n
+    let front = &slots[..n];
+    front.iter().take_while(|g| !folder.is_ahead_of(g)).count()
 }
 
-// How many of the first n folders stand before the first of a priority and stamp.
-fn place_of<P: Priority>(slots: &[Folder<P>], n: usize, priority: &P, stamp: u32) -> usize
+// The place of the first of a priority and stamp among the first n folders.
+fn place_of<P: Priority>(slots: &[Folder<P>], n: usize, priority: &P, stamp: u32) -> Option<usize>
     requires { n ≤ length slots.now }
-    ensures { result ≡ prefix_len (λ g. not (same_key P.Priority.not_behind priority.now stamp g)) (take n slots.now) }
+    ensures { result ≡ position (λ g. same_key P.Priority.not_behind priority.now stamp g) (take n slots.now) }
 {
-    for i in 0..n {
-        if slots[i].has_key(priority, stamp) {
-            return i;
-        }
-    }
-    n
+    slots[..n].iter().position(|g| g.has_key(priority, stamp))
 }
 
 // Puts a folder among the first n, in its place.
@@ -58,7 +50,7 @@ fn put_in<P: Priority>(
     requires room { capacity ≤ length slots.old }
     ensures { Changed P.Priority.not_behind capacity (put_rule P.Priority.not_behind capacity (take n slots.old) folder.now) (take n slots.old) (take (if is_ok result then n + 1 else n) slots.new) (reply list_refusal result) }
 {
-    if place_of(slots, n, &folder.priority, folder.stamp) < n {
+    if place_of(slots, n, &folder.priority, folder.stamp).is_some() {
         return Err(ListRefusal::Present);
     }
     if n >= capacity {
@@ -79,10 +71,9 @@ fn remove_from<P: Priority>(
     requires { n ≤ length slots.old }
     ensures { Changed P.Priority.not_behind n (remove_rule P.Priority.not_behind (take n slots.old) priority.now stamp) (take n slots.old) (take (if is_ok result then n - 1 else n) slots.new) (reply list_refusal result) }
 {
-    let place = place_of(slots, n, priority, stamp);
-    if place >= n {
+    let Some(place) = place_of(slots, n, priority, stamp) else {
         return Err(ListRefusal::Absent);
-    }
+    };
     remove_at(slots, n, place);
     Ok(())
 }

@@ -7,7 +7,7 @@ pub(crate) fn item_at<T: Copy>(xs: &[T], n: usize, place: usize) -> Option<T>
     requires { n ≤ length xs.now }
     ensures { result ≡ slice_get (take n xs.now) place }
 {
-    if place < n { Some(xs[place]) } else { None }
+    xs[..n].get(place).copied()
 }
 
 // Puts x at a place of the first n items, which then are one more.

@@ -1,9 +1,8 @@
 // A list of entries kept by rising stamp.
-ghost use Rattle.std.specs.Prelude.{◌≡◌, ◌≤◌, true, [], vec_len, nat_lt};
-ghost use Rattle.std.specs.List.{prefix_len};
+ghost use Rattle.std.specs.Prelude.{◌≡◌, ◌≤◌, true, [], vec_len};
 ghost use Rattle.journal.specs.Entering.{enter_rule};
 ghost use Rattle.journal.specs.Racks.{most_entries};
-ghost use Rattle.journal.specs.Replay.{by_stamp, dated, stamp_of};
+ghost use Rattle.journal.specs.Replay.{by_stamp};
 ghost use Rattle.slips.specs.Enter.{Admits, Enters};
 
 use crate::fault::SlipFault;
@@ -19,32 +18,9 @@ pub struct EntryList<P> {
     ghost few: { vec_len items ≤ most_entries },
 }
 
-// Whether an entry has the stamp.
-fn is_dated<P: Copy>(entries: &[Entry<P>], stamp: u32) -> bool
-    ensures { result ≡ dated stamp entries.now }
-{
-    for slip in entries {
-        if slip.stamp() == stamp {
-            return true;
-        }
-    }
-    false
-}
-
-// How many entries stand before the first whose stamp is not lesser.
-fn before<P: Copy>(entries: &[Entry<P>], stamp: u32) -> usize
-    ensures { result ≡ prefix_len (λ e. nat_lt (stamp_of e) stamp) entries.now }
-{
-    for i in 0..entries.len() {
-        if entries[i].stamp() >= stamp {
-            return i;
-        }
-    }
-    entries.len()
-}
-
 // The place that a slip goes to, or what it is refused for.
 fn place_for<P: Copy>(entries: &[Entry<P>], entry: &Entry<P>) -> Result<usize, Refusal>
+    requires { by_stamp entries.now ≡ true }
     ensures { Admits entries.now entry.now result }
 {
     if !entry.has_good_stamp() {
@@ -53,14 +29,11 @@ fn place_for<P: Copy>(entries: &[Entry<P>], entry: &Entry<P>) -> Result<usize, R
     if !entry.has_good_number() {
         return Err(Refusal::NumberOutOfRange);
     }
-    let stamp = entry.stamp();
-    if is_dated(entries, stamp) {
-        return Err(Refusal::StampTaken);
+    match entries.binary_search_by_key(&entry.stamp(), |e| e.stamp()) {
+        Ok(_) => Err(Refusal::StampTaken),
+        Err(_) if entries.len() >= MOST_ENTRIES => Err(Refusal::Full),
+        Err(place) => Ok(place),
     }
-    if entries.len() >= MOST_ENTRIES {
-        return Err(Refusal::Full);
-    }
-    Ok(before(entries, stamp))
 }
 
 impl<P: Copy> EntryList<P> {

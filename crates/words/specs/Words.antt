@@ -1,11 +1,6 @@
 -- Lines, words and numbers in bytes.
-use Rattle.std.specs.Prelude.{ℕ, ◌+◌, ◌-◌, ◌*◌, min, Bool, true, false, cond, not, ◌&&◌, ◌||◌, List, [], ◌∷◌, take, drop, Some, None, fold, Option, ◌==◌, nat_le}
+use Rattle.std.specs.Prelude.{ℕ, ◌+◌, ◌-◌, ◌*◌, min, Bool, true, not, if◌then◌else◌, ◌&&◌, ◌||◌, List, [], ◌∷◌, take, drop, Some, None, fold, Option, ◌==◌, nat_le}
 use Rattle.std.specs.List.{prefix_len}
-
--- two answers are the same
-abbrev pub same : Bool → Bool → Bool
-same true b = b
-same false b = not b
 
 -- how many bytes stand before the first that is the mark
 abbrev pub until : ℕ → List ℕ → ℕ
@@ -24,11 +19,11 @@ blank b = b == 32 || (b == 9 || b == 13)
 
 -- the bytes from the first that is no blank
 abbrev pub unblanked : List ℕ → List ℕ
-unblanked bs = drop (prefix_len (λ b. same true (blank b)) bs) bs
+unblanked bs = drop (prefix_len blank bs) bs
 
 -- how long the word is that bytes begin with
 abbrev pub word_length : List ℕ → ℕ
-word_length bs = prefix_len (λ b. same false (blank b)) bs
+word_length bs = prefix_len (λ b. not (blank b)) bs
 
 -- the first word, empty where there is none, and the bytes after it
 abbrev pub first_word : List ℕ → List ℕ
@@ -53,4 +48,4 @@ digits (b ∷ bs) = digit b && digits bs
 -- a word of digits reads as its number, or as the largest where that is greater; no other word reads
 abbrev pub decimal : ℕ → List ℕ → Option ℕ
 decimal largest [] = None
-decimal largest (b ∷ bs) = cond (digits (b ∷ bs)) (Some (min (decimal_after 0 (b ∷ bs)) largest)) None
+decimal largest (b ∷ bs) = (if digits (b ∷ bs) then Some (min (decimal_after 0 (b ∷ bs)) largest) else None)

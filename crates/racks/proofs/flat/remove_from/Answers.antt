@@ -1,12 +1,12 @@
-use Rattle.std.proofs.Common.{arith}
-use Rattle.racks.proofs.Walked.{remove_absent, remove_done}
+use Rattle.std.proofs.Common.{sym, ◌∙◌}
+use Rattle.racks.proofs.Found.{remove_absent, remove_done}
 use Rattle.racks.proofs.flat.remove_from.Goals as goal
 
-pub returns-then-place-n : goal.returns-then-place-n
-returns-then-place-n g c =
-    remove_absent g.P.Priority.not_behind c.args.slots.now c.args.n c.requires c.args.priority.now c.args.stamp (omega arith)
+pub returns-in_default : goal.returns-in_default
+returns-in_default g c =
+    remove_absent g.P.Priority.not_behind c.args.slots.now c.args.n c.requires c.args.priority.now c.args.stamp (sym c.place_of.ensures ∙ c.in_default.is)
 
 pub returns : goal.returns
 returns g c =
-    remove_done g.P.Priority.not_behind c.args.slots.now c.args.n c.requires c.args.priority.now c.args.stamp _ c.place_of-place.result
-    c.if-place-n.false c.place_of-place.ensures c.remove_at.ensures
+    remove_done g.P.Priority.not_behind c.args.slots.now c.args.n c.requires c.args.priority.now c.args.stamp _ c.in-Some.place
+    (sym c.place_of.ensures ∙ c.in-Some.is) c.remove_at.ensures
