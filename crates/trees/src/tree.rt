@@ -90,7 +90,19 @@ impl<'a, E: Element> Tree<'a, E> {
         self.part().sum_from(place)
     }
 
-    // FIRSTHIT
+    // The first place from `from` on at which the probe hits, where `start` has passed nothing.
+    pub fn first_hit<P: Probe<E, E::Sum>>(&self, start: P, from: usize) -> Option<usize>
+        ensures { Right E.empty E.whole self.now.lent.nodes.now self.now.lent.links → Lawful E.empty E.whole P.rules start (listed self.now.lent.nodes.now self.now.lent.links) → result ≡ first_in P.rules (passed P.rules start (take from (listed self.now.lent.nodes.now self.now.lent.links))) from (drop from (listed self.now.lent.nodes.now self.now.lent.links)) }
+    {
+        self.part().first_hit(start, from)
+    }
+
+    // The last of the first `count` places at which the probe hits, where `start` has passed nothing.
+    pub fn last_hit<P: Probe<E, E::Sum>>(&self, start: P, count: usize) -> Option<usize>
+        ensures { Right E.empty E.whole self.now.lent.nodes.now self.now.lent.links → Lawful E.empty E.whole P.rules start (listed self.now.lent.nodes.now self.now.lent.links) → result ≡ last_in P.rules start 0 (take count (listed self.now.lent.nodes.now self.now.lent.links)) }
+    {
+        self.part().last_hit(start, count)
+    }
 
     pub fn clear(&mut self)
         ensures emptied { Emptied E.empty E.whole self.new.lent.nodes.now self.new.lent.links }
