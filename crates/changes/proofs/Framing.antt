@@ -46,10 +46,6 @@ module _ {E : Type 0} where
   uses_plug k (frame Left slot item other ∷ fs) t = let r = uses_plug k fs t in omega arith
   uses_plug k (frame Right slot item other ∷ fs) t = let r = uses_plug k fs t in omega arith
 
-  pub frame_uses_push : (k : ℕ) (fs : List (Frame E)) (side : Side) (slot : ℕ) (item : E) (other : Tree E) → frame_uses k (fs ++ (frame side slot item other ∷ [])) ≡ frame_uses k fs + (cond (eqb k slot) 1 0 + uses k other)
-  frame_uses_push k [] side slot item other = omega arith
-  frame_uses_push k (frame l s i o ∷ fs) side slot item other = let r = frame_uses_push k fs side slot item other in omega arith
-
   pub size_plug : (fs : List (Frame E)) (t : Tree E) → size t ≤ size (plug fs t)
   size_plug [] t = omega arith
   size_plug (frame Left slot item other ∷ fs) t = let r = size_plug fs t in omega arith

@@ -5,8 +5,8 @@ use Rattle.nodes.specs.Tree.{Tree, items, slots}
 use Rattle.std.specs.List.{slice_get}
 use Rattle.nodes.specs.Holding.{Holds, nothing, part}
 use Rattle.nodes.proofs.Held.{size_is_length}
+use Rattle.nodes.proofs.Places.{slots_long}
 use Rattle.rebuild.specs.Shapes.{Labelled}
-use Rattle.rebuild.proofs.Slots.{slots_long}
 
 module _ {E S : Type 0} (nodes : List (Node E S)) where
   label_append : (ss : List ℕ) (xs : List E) (ts : List ℕ) (ys : List E) → length ss ≡ length xs → Labelled nodes ss xs → Labelled nodes ts ys → Labelled nodes (ss ++ ts) (xs ++ ys)

@@ -1,4 +1,3 @@
-pub mod Stacking
 pub mod Slots
 pub mod Ranges
 pub mod Plans

@@ -1,10 +1,8 @@
 // Building the balanced shape over slots in order.
-ghost use Rattle.std.specs.Prelude.{◌≡◌, ℕ, ◌+◌, ◌-◌, ◌/◌, ◌^◌, ◌<◌, ◌≤◌, true, false, List, ◌∷◌, length, take};
-ghost use Rattle.rebuild.specs.Stacks.{Stack};
+ghost use Rattle.std.specs.Prelude.{◌≡◌, ℕ, ◌+◌, ◌-◌, ◌/◌, ◌^◌, ◌<◌, ◌≤◌, List, [], ◌∷◌, ◌++◌, length, take};
 ghost use Rattle.rebuild.specs.Shapes.{root_of, Labelled, Buildable, Rebuilt, Closable, Closed};
 
-use crate::task::Task;
-use crate::tasks::Tasks;
+use crate::task::{Task, Tasks};
 use changes::place::place;
 use nodes::read::read_at;
 use nodes::{Element, Node};
@@ -38,28 +36,16 @@ fn close<E: Element>(nodes: &mut [Node<E, E::Sum>], order: &[usize], lo: usize, 
 fn split(tasks: &mut Tasks, lo: usize, count: usize)
     requires some { 0 < count }
     requires fits { lo + count < 2 ^ 64 }
-    requires room { tasks.old.len + 3 ≤ 32 }
-    requires long { length tasks.old.tasks ≡ 32 }
-    ensures more { (ts : List Task) → Stack tasks.old.tasks tasks.old.len ts → Stack tasks.new.tasks tasks.new.len (record { close = false; lo = lo; count = count / 2 } ∷ (record { close = false; lo = lo + count / 2 + 1; count = count - count / 2 - 1 } ∷ (record { close = true; lo = lo; count = count } ∷ ts))) }
-    ensures len { tasks.new.len ≡ tasks.old.len + 3 }
-    ensures long { length tasks.new.tasks ≡ 32 }
+    requires room { length tasks.old + 3 ≤ 32 }
+    ensures { tasks.new ≡ tasks.old ++ (Task.Close lo count ∷ (Task.Build (lo + count / 2 + 1) (count - count / 2 - 1) ∷ (Task.Build lo (count / 2) ∷ []))) }
 {
     let before = count / 2;
-    tasks.push(Task {
-        close: true,
-        lo,
-        count,
-    });
-    tasks.push(Task {
-        close: false,
+    tasks.push(Task::Close { lo, count });
+    tasks.push(Task::Build {
         lo: lo + before + 1,
         count: count - before - 1,
     });
-    tasks.push(Task {
-        close: false,
-        lo,
-        count: before,
-    });
+    tasks.push(Task::Build { lo, count: before });
 }
 
 // Links the nodes in these slots to the balanced tree that has them in this order, and returns its root.
@@ -71,17 +57,14 @@ pub fn build<E: Element>(
     requires { Buildable nodes.old order.now count }
     ensures { (list : List E) → length list ≡ count → Labelled nodes.old (take count order.now) list → Rebuilt E.empty E.whole nodes.old nodes.new (take count order.now) list result }
 {
-    let mut tasks = Tasks::new();
-    tasks.push(Task {
-        close: false,
-        lo: 0,
-        count,
-    });
+    let all = Task::Build { lo: 0, count };
+    let mut tasks = Tasks::new(all);
+    tasks.push(all);
     while let Some(task) = tasks.pop() {
-        if task.close {
-            close::<E>(nodes, order, task.lo, task.count);
-        } else if task.count > 0 {
-            split(&mut tasks, task.lo, task.count);
+        match task {
+            Task::Build { count: 0, .. } => {}
+            Task::Build { lo, count } => split(&mut tasks, lo, count),
+            Task::Close { lo, count } => close::<E>(nodes, order, lo, count),
         }
     }
     root_of(order, 0, count)

@@ -5,7 +5,6 @@
 pub mod build;
 pub mod order;
 pub mod task;
-pub mod tasks;
 pub mod whole;
 
 pub use whole::rebuild;

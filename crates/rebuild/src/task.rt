@@ -1,8 +1,12 @@
-// One step of building: a range of places to build, or one whose two halves are built and whose root is to be written.
+// The steps of building, put off on a stack.
+use changes::Stack;
 
+// So many places from `lo` on: to be built, or to have their root written where the two halves are built.
 #[derive(Clone, Copy)]
-pub struct Task {
-    pub close: bool,
-    pub lo: usize,
-    pub count: usize,
+pub enum Task {
+    Build { lo: usize, count: usize },
+    Close { lo: usize, count: usize },
 }
+
+// Room for the largest tree: each halving of a range leaves two tasks more.
+pub type Tasks = Stack<Task, 32>;

@@ -1,19 +1,11 @@
 use Rattle.std.proofs.Common.{◌≤◌, sym, ◌∙◌, subst, arith}
 use Rattle.nodes.specs.Tree.{items}
-use Rattle.nodes.proofs.Held.{stored_right, size_is_length}
+use Rattle.nodes.proofs.Held.{size_is_length}
 use Rattle.changes.specs.Chains.{count}
 use Rattle.rebuild.specs.Shapes.{Labelled, Rebuilt}
 use Rattle.rebuild.proofs.Ranges.{uses_count}
 use Rattle.rebuild.proofs.Labels.{labelled_tree}
 use Rattle.rebuild.proofs.whole.rebuild.Goals as goal
-
-pub in_order-count-requires : goal.in_order-count-requires
-in_order-count-requires g c =
-    let p = c.requires in
-    let s = stored_right p.holds in
-    let l = c.new-order.ensures in
-    let m = p.small in
-    record { shape = record { tree = p.tree; holds = p.holds }; room = omega arith }
 
 pub build-requires : goal.build-requires
 build-requires g c =
@@ -21,7 +13,6 @@ build-requires g c =
     let o = c.in_order-count.ensures in
     let shown = o.slots p.tree p.holds in
     let n = o.count p.tree p.holds in
-    let l = c.new-order.ensures in
     let k = c.in_order-count.auto.order in
     let m = p.small in
     record {
