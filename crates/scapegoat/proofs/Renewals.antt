@@ -15,7 +15,7 @@ use Rattle.changes.proofs.Framing.{uses_plug}
 use Rattle.changes.proofs.Chaining.{counted_here}
 use Rattle.changes.proofs.Growths.{size_swap}
 use Rattle.rebuild.proofs.Ranges.{uses_count}
-use Rattle.rebuild.proofs.Slots.{slots_long}
+use Rattle.nodes.proofs.Places.{slots_long}
 use Rattle.rebuild.specs.Shapes.{Rebuilt}
 
 pub steps_take : {E : Type 0} (k : ℕ) (frames : List (Frame E)) → steps_of (take k frames) ≡ take k (steps_of frames)

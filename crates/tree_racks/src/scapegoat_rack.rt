@@ -1,30 +1,34 @@
 // The scapegoat rack: folders in order in a tree over lent nodes.
 ghost use Rattle.std.specs.Prelude.{◌≡◌, []};
-ghost use Rattle.trees.specs.Structures.{capacity_of, Structured};
-ghost use Rattle.tree_racks.specs.Scapegoat.{racked, LastsRight};
+ghost use Rattle.trees.specs.Structures.{capacity_of};
+ghost use Rattle.tree_racks.specs.Scapegoat.{racked};
 
 use crate::by_rank::{clear_all, count_in, folder_at, no_folders, put_in, remove_from};
 use folders::Racked;
 use journal::folder::Folder;
 use journal::rack::Rack;
 use journal::refusal::ListRefusal;
-use nodes::Node;
+use nodes::{Element, Node};
 use orders::priority::Priority;
-use trees::tree::Tree;
+use trees::Tree;
 
-// Folders in order, foremost first, by place in a tree. Its structure and its summaries are right whatever is called.
+// Folders in order, foremost first, by place in a tree.
 #[derive(Drop)]
-pub struct ScapegoatRack<'a, P: Priority> {
+pub struct ScapegoatRack<'a, P: Priority>
+where
+    Racked<P>: Element<Sum = Option<Folder<P>>>,
+{
     tree: Tree<'a, Racked<P>>,
-    ghost structured: { Structured tree.nodes.now tree.links },
-    ghost right: { LastsRight tree.nodes.now tree.links },
 }
 
-impl<'a, P: Priority> ScapegoatRack<'a, P> {
+impl<'a, P: Priority> ScapegoatRack<'a, P>
+where
+    Racked<P>: Element<Sum = Option<Folder<P>>>,
+{
     // An empty rack in any memory; what the nodes held is forgotten.
     pub fn new(nodes: &'a mut [Node<Racked<P>, Option<Folder<P>>>]) -> ScapegoatRack<'a, P>
-        ensures capacity { capacity_of result.tree.nodes.now ≡ capacity_of nodes.old }
-        ensures empty { racked result.tree.nodes.now result.tree.links ≡ [] }
+        ensures capacity { capacity_of result.tree.lent.nodes.now ≡ capacity_of nodes.old }
+        ensures empty { racked result.tree.lent.nodes.now result.tree.lent.links ≡ [] }
     {
         ScapegoatRack {
             tree: no_folders(nodes),
@@ -32,10 +36,13 @@ impl<'a, P: Priority> ScapegoatRack<'a, P> {
     }
 }
 
-impl<'a, P: Priority> Rack<P> for ScapegoatRack<'a, P> {
-    ghost capacity = { λ r. capacity_of r.tree.nodes.now };
+impl<'a, P: Priority> Rack<P> for ScapegoatRack<'a, P>
+where
+    Racked<P>: Element<Sum = Option<Folder<P>>>,
+{
+    ghost capacity = { λ r. capacity_of r.tree.lent.nodes.now };
 
-    ghost folders = { λ r. racked r.tree.nodes.now r.tree.links };
+    ghost folders = { λ r. racked r.tree.lent.nodes.now r.tree.lent.links };
 
     fn capacity(&self) -> usize {
         self.tree.capacity()

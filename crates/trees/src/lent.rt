@@ -1,7 +1,7 @@
 // Lent nodes and the links into them: what a tree hands on to those who read and change it.
 ghost use Rattle.std.specs.Prelude.{◌≡◌, ◌≤◌, false, length};
 ghost use Rattle.nodes.specs.Holding.{Holds};
-ghost use Rattle.trees.specs.Structures.{listed, capacity_of, tree_of, Right, Structured};
+ghost use Rattle.trees.specs.Structures.{listed, capacity_of, tree_of, Structured};
 ghost use Rattle.trees.specs.Depths.{DepthTold};
 ghost use Rattle.trees.specs.Operations.{Inserts, Removes, Replaces, Emptied};
 
@@ -20,16 +20,15 @@ use upkeep::remove::remove;
 // That the links lie rightly in the nodes is kept by `Tree`: a type that keeps a fact about a `&mut` slice of its own cannot
 // lend the slice on, so it stands here without that fact, and these methods ask for it.
 #[derive(Drop)]
-pub struct Lent<'a, E: Element> {
-    pub nodes: &'a mut [Node<E, E::Sum>],
+pub struct Lent<'a, E, S> {
+    pub nodes: &'a mut [Node<E, S>],
     pub links: Links,
 }
 
-impl<'a, E: Element> Lent<'a, E> {
+impl<'a, E: Element<Sum = S>, S: Copy> Lent<'a, E, S> {
     // No items: all slots are free, whatever the memory held.
-    pub(crate) fn new(nodes: &'a mut [Node<E, E::Sum>]) -> Lent<'a, E>
+    pub(crate) fn new(nodes: &'a mut [Node<E, S>]) -> Lent<'a, E, S>
         ensures emptied { Emptied E.empty E.whole result.nodes.now result.links }
-        ensures right { ∥ Right E.empty E.whole result.nodes.now result.links ∥₁ }
         ensures capacity { capacity_of result.nodes.now ≡ capacity_of nodes.old }
     {
         let links = emptied::<E>(nodes);
@@ -69,7 +68,6 @@ impl<'a, E: Element> Lent<'a, E> {
     // Forgets every item: all slots are free.
     pub(crate) fn clear(&mut self)
         ensures emptied { Emptied E.empty E.whole self.new.nodes.now self.new.links }
-        ensures right { ∥ Right E.empty E.whole self.new.nodes.now self.new.links ∥₁ }
         ensures capacity { capacity_of self.new.nodes.now ≡ capacity_of self.old.nodes.now }
     {
         self.links = emptied::<E>(self.nodes);
@@ -77,10 +75,8 @@ impl<'a, E: Element> Lent<'a, E> {
 
     // Puts an item before the one at a place, or at the end, in the first free slot.
     pub(crate) fn insert_at(&mut self, place: usize, item: E) -> Result<(), TreeRefusal>
-        requires structured { Structured self.old.nodes.now self.old.links }
-        requires right { ∥ Right E.empty E.whole self.old.nodes.now self.old.links ∥₁ }
-        ensures inserts { Inserts E.empty E.whole self.old.nodes.now self.old.links self.new.nodes.now self.new.links place item result }
-        ensures right { ∥ Right E.empty E.whole self.new.nodes.now self.new.links ∥₁ }
+        requires { Structured self.old.nodes.now self.old.links }
+        ensures { Inserts E.empty E.whole self.old.nodes.now self.old.links self.new.nodes.now self.new.links place item result }
     {
         let links = self.links;
         if place > links.count {
@@ -108,10 +104,8 @@ impl<'a, E: Element> Lent<'a, E> {
 
     // Takes out the item at a place, whose slot is then the first free one; none past the end.
     pub(crate) fn remove_at(&mut self, place: usize) -> Option<E>
-        requires structured { Structured self.old.nodes.now self.old.links }
-        requires right { ∥ Right E.empty E.whole self.old.nodes.now self.old.links ∥₁ }
-        ensures removes { Removes E.empty E.whole self.old.nodes.now self.old.links self.new.nodes.now self.new.links place result }
-        ensures right { ∥ Right E.empty E.whole self.new.nodes.now self.new.links ∥₁ }
+        requires { Structured self.old.nodes.now self.old.links }
+        ensures { Removes E.empty E.whole self.old.nodes.now self.old.links self.new.nodes.now self.new.links place result }
     {
         let links = self.links;
         let shrunk = remove::<E>(self.nodes, links.root, place, links.most)?;
@@ -128,10 +122,8 @@ impl<'a, E: Element> Lent<'a, E> {
 
     // Replaces the item at a place, and tells the one that was there; none past the end.
     pub(crate) fn replace_at(&mut self, place: usize, item: E) -> Option<E>
-        requires structured { Structured self.old.nodes.now self.old.links }
-        requires right { ∥ Right E.empty E.whole self.old.nodes.now self.old.links ∥₁ }
-        ensures replaces { Replaces E.empty E.whole self.old.nodes.now self.old.links self.new.nodes.now self.new.links place item result }
-        ensures right { ∥ Right E.empty E.whole self.new.nodes.now self.new.links ∥₁ }
+        requires { Structured self.old.nodes.now self.old.links }
+        ensures { Replaces E.empty E.whole self.old.nodes.now self.old.links self.new.nodes.now self.new.links place item result }
     {
         let changed = replace::<E>(self.nodes, self.links.root, place, item)?;
         self.links.root = changed.root;

@@ -13,18 +13,18 @@ use crate::refusal::TreeRefusal;
 use balance::MOST_ITEMS;
 use nodes::{Element, Node, Part, Probe};
 
-// A list of items by place. Its meaning is `listed`, the items in order, and `capacity_of`. Its structure and its
-// summaries are right whatever is called.
+// A list of items by place. Its meaning is `listed`, the items in order, and `capacity_of`. Its structure is right
+// whatever is called. That its summaries are right is kept by whoever holds a tree: they hang on what the elements are, and
+// a type over one kind of element cannot hold a tree that asks for that bound itself.
 #[derive(Drop)]
-pub struct Tree<'a, E: Element> {
-    pub lent: Lent<'a, E>,
+pub struct Tree<'a, E, S> {
+    pub lent: Lent<'a, E, S>,
     ghost structured: { Structured lent.nodes.now lent.links },
-    ghost right: { ∥ Right E.empty E.whole lent.nodes.now lent.links ∥₁ },
 }
 
-impl<'a, E: Element> Tree<'a, E> {
+impl<'a, E: Element<Sum = S>, S: Copy> Tree<'a, E, S> {
     // An empty tree in any memory; what the nodes held is forgotten.
-    pub fn new(nodes: &'a mut [Node<E, E::Sum>]) -> Tree<'a, E>
+    pub fn new(nodes: &'a mut [Node<E, S>]) -> Tree<'a, E, S>
         ensures emptied { Emptied E.empty E.whole result.lent.nodes.now result.lent.links }
         ensures capacity { capacity_of result.lent.nodes.now ≡ capacity_of nodes.old }
     {
@@ -77,28 +77,28 @@ impl<'a, E: Element> Tree<'a, E> {
     }
 
     // The summary of the first `count` items, or of all where there are fewer.
-    pub fn sum_before(&self, count: usize) -> E::Sum
+    pub fn sum_before(&self, count: usize) -> S
         ensures { Right E.empty E.whole self.now.lent.nodes.now self.now.lent.links → Summarizes E.empty E.whole (take count (listed self.now.lent.nodes.now self.now.lent.links)) result }
     {
         self.part().sum_before(count)
     }
 
     // The summary of the items from a place on, or of none where there are none.
-    pub fn sum_from(&self, place: usize) -> E::Sum
+    pub fn sum_from(&self, place: usize) -> S
         ensures { Right E.empty E.whole self.now.lent.nodes.now self.now.lent.links → Summarizes E.empty E.whole (drop place (listed self.now.lent.nodes.now self.now.lent.links)) result }
     {
         self.part().sum_from(place)
     }
 
     // The first place from `from` on at which the probe hits, where `start` has passed nothing.
-    pub fn first_hit<P: Probe<E, E::Sum>>(&self, start: P, from: usize) -> Option<usize>
+    pub fn first_hit<P: Probe<E, S>>(&self, start: P, from: usize) -> Option<usize>
         ensures { Right E.empty E.whole self.now.lent.nodes.now self.now.lent.links → Lawful E.empty E.whole P.rules start (listed self.now.lent.nodes.now self.now.lent.links) → result ≡ first_in P.rules (passed P.rules start (take from (listed self.now.lent.nodes.now self.now.lent.links))) from (drop from (listed self.now.lent.nodes.now self.now.lent.links)) }
     {
         self.part().first_hit(start, from)
     }
 
     // The last of the first `count` places at which the probe hits, where `start` has passed nothing.
-    pub fn last_hit<P: Probe<E, E::Sum>>(&self, start: P, count: usize) -> Option<usize>
+    pub fn last_hit<P: Probe<E, S>>(&self, start: P, count: usize) -> Option<usize>
         ensures { Right E.empty E.whole self.now.lent.nodes.now self.now.lent.links → Lawful E.empty E.whole P.rules start (listed self.now.lent.nodes.now self.now.lent.links) → result ≡ last_in P.rules start 0 (take count (listed self.now.lent.nodes.now self.now.lent.links)) }
     {
         self.part().last_hit(start, count)

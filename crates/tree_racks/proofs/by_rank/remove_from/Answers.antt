@@ -5,15 +5,9 @@ use Rattle.tree_racks.proofs.by_rank.remove_from.Goals as goal
 
 pub returns-then-not-present : goal.returns-then-not-present
 returns-then-not-present g c =
-    remove_stays g.P.Priority.not_behind (record { total = g.met.P.Priority.total; transitive = g.met.P.Priority.transitive }) c.args.tree.now.nodes.now c.args.tree.now.links c.requires.structured c.requires.right c.args.priority.now c.args.stamp c.rank_in-place.result.0
-    (told_by g.P.Priority.not_behind c.args.priority.now c.args.stamp (racked c.args.tree.now.nodes.now c.args.tree.now.links) c.rank_in-place.result false c.if-not-present.true c.rank_in-place.ensures)
+    remove_stays g.P.Priority.not_behind (record { total = g.met.P.Priority.total; transitive = g.met.P.Priority.transitive }) c.args.tree.now.lent.nodes.now c.args.tree.now.lent.links c.args.tree.now.structured c.args.priority.now c.args.stamp c.rank_in-place.result.0
+    (told_by g.P.Priority.not_behind c.args.priority.now c.args.stamp (racked c.args.tree.now.lent.nodes.now c.args.tree.now.lent.links) c.rank_in-place.result false c.if-not-present.true c.rank_in-place.ensures)
 
-pub returns-in-None : goal.returns-in-None
-returns-in-None g c =
-    remove_refused g.P.Priority.not_behind (record { total = g.met.P.Priority.total; transitive = g.met.P.Priority.transitive }) c.args.tree.now.nodes.now c.args.tree.now.links c.requires.structured c.requires.right c.args.priority.now c.args.stamp c.rank_in-place.result.0 _ _
-    (told_by g.P.Priority.not_behind c.args.priority.now c.args.stamp (racked c.args.tree.now.nodes.now c.args.tree.now.links) c.rank_in-place.result true c.if-not-present.false c.rank_in-place.ensures) c.in-None.ensures
 
-pub returns-in-Some : goal.returns-in-Some
-returns-in-Some g c =
-    remove_moves g.P.Priority.not_behind (record { total = g.met.P.Priority.total; transitive = g.met.P.Priority.transitive }) c.args.tree.now.nodes.now c.args.tree.now.links c.requires.structured c.requires.right c.args.priority.now c.args.stamp c.rank_in-place.result.0 _ _
-    (told_by g.P.Priority.not_behind c.args.priority.now c.args.stamp (racked c.args.tree.now.nodes.now c.args.tree.now.links) c.rank_in-place.result true c.if-not-present.false c.rank_in-place.ensures) _ c.in-Some.ensures
+pub returns : goal.returns
+returns g c = let e = let m = c.map.ensures in c.ok_or.ensures in ?

@@ -1,5 +1,4 @@
 use Rattle.std.proofs.Common.{◌≡◌, ◌+◌, cond, length, sym, ap, ◌∙◌, arith}
-use mathlib.Core.Logic.{∥∥₁_map}
 use Rattle.trees.specs.declared.refusal.TreeRefusal.TheVariants.{NoPlace, Full}
 use Rattle.trees.specs.Structures.{listed, capacity_of}
 use Rattle.trees.proofs.Reading.{laid, counted_by, chain_none, chain_within}
@@ -8,50 +7,50 @@ use Rattle.trees.proofs.Growing.{fitting, insert_accepted}
 use Rattle.trees.proofs.lent.Lent.insert_at.Goals as goal
 use Rattle.trees.proofs.lent.Lent.insert_at.Goals.{then-balanced, else-balanced}
 
-pub returns-then-place-links-clause-inserts : goal.returns-then-place-links-clause-inserts
-returns-then-place-links-clause-inserts g c =
+pub returns-then-place-links : goal.returns-then-place-links
+returns-then-place-links g c =
     let e = g.E.Element in
     let nodes = c.args.self.now.nodes.now in
     let links = c.args.self.now.links in
-    let n = counted_by e.empty e.whole c.requires.structured in
+    let n = counted_by e.empty e.whole c.requires in
     let t = c.if-place-links.true in
-    insert_refused e.empty e.whole nodes links c.requires.structured c.args.place c.args.item NoPlace (rule_beyond (capacity_of nodes) (listed nodes links) c.args.place c.args.item (omega arith))
+    insert_refused e.empty e.whole nodes links c.requires c.args.place c.args.item NoPlace (rule_beyond (capacity_of nodes) (listed nodes links) c.args.place c.args.item (omega arith))
 
-pub returns-then-links-ge-MOST_ITEMS-clause-inserts : goal.returns-then-links-ge-MOST_ITEMS-clause-inserts
-returns-then-links-ge-MOST_ITEMS-clause-inserts g c =
+pub returns-then-links-ge-MOST_ITEMS : goal.returns-then-links-ge-MOST_ITEMS
+returns-then-links-ge-MOST_ITEMS g c =
     let e = g.E.Element in
     let nodes = c.args.self.now.nodes.now in
     let links = c.args.self.now.links in
-    let n = counted_by e.empty e.whole c.requires.structured in
+    let n = counted_by e.empty e.whole c.requires in
     let p = c.if-place-links.false in
     let t = c.if-links-ge-MOST_ITEMS.true in
-    insert_refused e.empty e.whole nodes links c.requires.structured c.args.place c.args.item Full (rule_full (capacity_of nodes) (listed nodes links) c.args.place c.args.item (omega arith) (omega arith))
+    insert_refused e.empty e.whole nodes links c.requires c.args.place c.args.item Full (rule_full (capacity_of nodes) (listed nodes links) c.args.place c.args.item (omega arith) (omega arith))
 
-pub returns-in_default-clause-inserts : goal.returns-in_default-clause-inserts
-returns-in_default-clause-inserts g c =
+pub returns-in_default : goal.returns-in_default
+returns-in_default g c =
     let e = g.E.Element in
     let nodes = c.args.self.now.nodes.now in
     let links = c.args.self.now.links in
-    let n = counted_by e.empty e.whole c.requires.structured in
+    let n = counted_by e.empty e.whole c.requires in
     let p = c.if-place-links.false in
-    let l = laid e.empty e.whole c.requires.structured in
+    let l = laid e.empty e.whole c.requires in
     let none = ap length (chain_none l.chain c.in_default.is) in
     let s = l.slots in
-    insert_refused e.empty e.whole nodes links c.requires.structured c.args.place c.args.item Full (rule_full (capacity_of nodes) (listed nodes links) c.args.place c.args.item (omega arith) (omega arith))
+    insert_refused e.empty e.whole nodes links c.requires c.args.place c.args.item Full (rule_full (capacity_of nodes) (listed nodes links) c.args.place c.args.item (omega arith) (omega arith))
 
 pub read_at-free-requires : goal.read_at-free-requires
 read_at-free-requires g c =
     let e = g.E.Element in
-    chain_within (laid e.empty e.whole c.requires.structured).chain c.in-Some.is
+    chain_within (laid e.empty e.whole c.requires).chain c.in-Some.is
 
 pub insert-balanced-requires : goal.insert-balanced-requires
 insert-balanced-requires g c =
     let e = g.E.Element in
     let nodes = c.args.self.now.nodes.now in
-    fitting e.empty e.whole nodes c.args.self.now.links c.requires.structured c.in-Some.slot c.in-Some.is c.read_at-free.result c.read_at-free.ensures c.args.place c.max-most.result c.args.item c.if-place-links.false c.if-links-ge-MOST_ITEMS.false c.max-most.ensures
+    fitting e.empty e.whole nodes c.args.self.now.links c.requires c.in-Some.slot c.in-Some.is c.read_at-free.result c.read_at-free.ensures c.args.place c.max-most.result c.args.item c.if-place-links.false c.if-links-ge-MOST_ITEMS.false c.max-most.ensures
 
-pub returns-clause-inserts : goal.returns-clause-inserts
-returns-clause-inserts g c =
+pub returns : goal.returns
+returns g c =
     let e = g.E.Element in
     let nodes = c.args.self.now.nodes.now in
     let count = c.args.self.now.links.count + 1 in
@@ -60,7 +59,4 @@ returns-clause-inserts g c =
       | then-balanced w ↦ w.self-is ∙ sym (ap (λ b. cond b count c.max-most.result) w.if-balanced.true)
       | else-balanced w ↦ w.self-is ∙ sym (ap (λ b. cond b count c.max-most.result) w.if-balanced.false)
     ] in
-    insert_accepted e.empty e.whole nodes c.args.self.now.links c.requires.structured c.in-Some.slot c.in-Some.is c.read_at-free.result c.read_at-free.ensures c.args.place c.max-most.result c.args.item c.if-place-links.false c.if-links-ge-MOST_ITEMS.false c.max-most.ensures c.insert-balanced.new.nodes c.insert-balanced.auto.nodes c.insert-balanced.result c.insert-balanced.ensures c.if-balanced.self most_is
-
-pub returns-clause-right : goal.returns-clause-right
-returns-clause-right g c = ∥∥₁_map c.requires.right (returns-clause-inserts g c).changed.right
+    insert_accepted e.empty e.whole nodes c.args.self.now.links c.requires c.in-Some.slot c.in-Some.is c.read_at-free.result c.read_at-free.ensures c.args.place c.max-most.result c.args.item c.if-place-links.false c.if-links-ge-MOST_ITEMS.false c.max-most.ensures c.insert-balanced.new.nodes c.insert-balanced.auto.nodes c.insert-balanced.result c.insert-balanced.ensures c.if-balanced.self most_is

@@ -1,5 +1,4 @@
 use Rattle.std.proofs.Common.{◌≡◌, ◌-◌, false, cond, None, sym, ap, ◌∙◌, subst}
-use mathlib.Core.Logic.{∥∥₁_map}
 use Rattle.trees.specs.Structures.{tree_of}
 use Rattle.trees.specs.Operations.{Removes}
 use Rattle.trees.proofs.Reading.{laid}
@@ -8,28 +7,28 @@ use Rattle.trees.proofs.lent.Lent.remove_at.Goals as goal
 use Rattle.trees.proofs.lent.Lent.remove_at.Goals.{then-shrunk, else-shrunk}
 
 pub remove-requires : goal.remove-requires
-remove-requires g c = let e = g.E.Element in shrinkable e.empty e.whole c.args.self.now.nodes.now c.args.self.now.links c.requires.structured c.args.place
+remove-requires g c = let e = g.E.Element in shrinkable e.empty e.whole c.args.self.now.nodes.now c.args.self.now.links c.requires c.args.place
 
-pub returns-in_err-shrunk-clause-removes : goal.returns-in_err-shrunk-clause-removes
-returns-in_err-shrunk-clause-removes g c =
+pub returns-in_err-shrunk : goal.returns-in_err-shrunk
+returns-in_err-shrunk g c =
     let e = g.E.Element in
     let nodes = c.args.self.now.nodes.now in
     let links = c.args.self.now.links in
-    let none = c.in_err-shrunk.ensures false (tree_of nodes links) ((laid e.empty e.whole c.requires.structured).holds e.empty e.whole) in
-    subst (λ r. Removes e.empty e.whole nodes links c.remove.new.nodes links c.args.place r) (sym c.from_residual.ensures) (subst (λ ns. Removes e.empty e.whole nodes links ns links c.args.place None) (sym none.1) (remove_refused e.empty e.whole nodes links c.requires.structured c.args.place none.0))
+    let none = c.in_err-shrunk.ensures false (tree_of nodes links) ((laid e.empty e.whole c.requires).holds e.empty e.whole) in
+    subst (λ r. Removes e.empty e.whole nodes links c.remove.new.nodes links c.args.place r) (sym c.from_residual.ensures) (subst (λ ns. Removes e.empty e.whole nodes links ns links c.args.place None) (sym none.1) (remove_refused e.empty e.whole nodes links c.requires c.args.place none.0))
 
 pub release-free-requires : goal.release-free-requires
 release-free-requires g c =
     let e = g.E.Element in
-    freed_within e.empty e.whole c.args.self.now.nodes.now c.args.self.now.links c.requires.structured c.args.place c.remove.new.nodes c.remove.auto.nodes c.in_ok-shrunk.shrunk c.in_ok-shrunk.ensures
+    freed_within e.empty e.whole c.args.self.now.nodes.now c.args.self.now.links c.requires c.args.place c.remove.new.nodes c.remove.auto.nodes c.in_ok-shrunk.shrunk c.in_ok-shrunk.ensures
 
 pub overflow_sub-count : goal.overflow_sub-count
 overflow_sub-count g c =
     let e = g.E.Element in
-    some_counted e.empty e.whole c.args.self.now.nodes.now c.args.self.now.links c.requires.structured c.args.place c.remove.new.nodes c.remove.auto.nodes c.in_ok-shrunk.shrunk c.in_ok-shrunk.ensures
+    some_counted e.empty e.whole c.args.self.now.nodes.now c.args.self.now.links c.requires c.args.place c.remove.new.nodes c.remove.auto.nodes c.in_ok-shrunk.shrunk c.in_ok-shrunk.ensures
 
-pub returns-clause-removes : goal.returns-clause-removes
-returns-clause-removes g c =
+pub returns : goal.returns
+returns g c =
     let e = g.E.Element in
     let count = c.args.self.now.links.count - 1 in
     let most = c.args.self.now.links.most in
@@ -38,10 +37,4 @@ returns-clause-removes g c =
       | then-shrunk w ↦ w.self-is ∙ sym (ap (λ b. cond b count most) w.if-shrunk.true)
       | else-shrunk w ↦ w.self-is ∙ sym (ap (λ b. cond b count most) w.if-shrunk.false)
     ] in
-    remove_accepted e.empty e.whole c.args.self.now.nodes.now c.args.self.now.links c.requires.structured c.args.place c.remove.new.nodes c.remove.auto.nodes c.in_ok-shrunk.shrunk c.in_ok-shrunk.ensures c.release-free.new.nodes c.release-free.auto.nodes c.release-free.result c.release-free.ensures.chain c.release-free.ensures.kept c.if-shrunk.self most_is
-
-pub returns-clause-right : goal.returns-clause-right
-returns-clause-right g c = ∥∥₁_map c.requires.right (returns-clause-removes g c).changed.right
-
-pub returns-in_err-shrunk-clause-right : goal.returns-in_err-shrunk-clause-right
-returns-in_err-shrunk-clause-right g c = ∥∥₁_map c.requires.right (returns-in_err-shrunk-clause-removes g c).changed.right
+    remove_accepted e.empty e.whole c.args.self.now.nodes.now c.args.self.now.links c.requires c.args.place c.remove.new.nodes c.remove.auto.nodes c.in_ok-shrunk.shrunk c.in_ok-shrunk.ensures c.release-free.new.nodes c.release-free.auto.nodes c.release-free.result c.release-free.ensures.chain c.release-free.ensures.kept c.if-shrunk.self most_is
