@@ -2,7 +2,7 @@
 use Rattle.std.proofs.Common.{◌≡◌, ℕ, zero, suc, ◌<◌, ◌≤◌, Bool, true, false, List, [], ◌∷◌, length, Some, None, Ok, Err, Option, sym, refl, ap, ◌∙◌, subst, arith}
 use mathlib.Core.Bool.{Bool-set}
 use mathlib.Core.HLevel.{Σ_set}
-use mathlib.Core.Logic.{∥∥₁_elim}
+use mathlib.Core.Logic.{∥∥₁_elim, ∥∥₁_map}
 use native.Mathlib.Nat.{ℕ_set}
 use Rattle.std.specs.Option.{option_map}
 use Rattle.std.specs.List.{insert, remove, slice_get}
@@ -23,7 +23,7 @@ use Rattle.trees.specs.Structures.{listed, capacity_of, Structured}
 use Rattle.trees.specs.Operations.{Inserts, Removes, later}
 use Rattle.trees.proofs.Reading.{count_within}
 use Rattle.trees.proofs.Rules.{accepted_rule, refused_rule}
-use Rattle.tree_racks.specs.Scapegoat.{racked, Moved}
+use Rattle.tree_racks.specs.Scapegoat.{racked, LastsRight, Moved}
 
 module _ {P : Type 0} where
   pub racked_length : (rs : List (Racked P)) → length (folders_in rs) ≡ length rs
@@ -48,12 +48,12 @@ module _ {P : Type 0} (nb : P → P → Bool) (p : P) (s : ℕ) (fs : List (Fold
   pub told_by : (answer : ℕ × Bool) (b : Bool) → answer.1 ≡ b → Finds nb p s fs answer → Finds nb p s fs (answer.0, b)
   told_by answer b is found o = ap (λ c. (answer.0, c)) (sym is) ∙ found o
 
-module _ {P : Type 0} (nb : P → P → Bool) (L : Lawful nb) (entry : List (Node (Racked P) (Option (Folder P)))) (before : Links) (structured : Structured entry before) where
+module _ {P : Type 0} (nb : P → P → Bool) (L : Lawful nb) (entry : List (Node (Racked P) (Option (Folder P)))) (before : Links) (structured : Structured entry before) (right : LastsRight entry before) where
   fits : length (racked entry before) ≤ capacity_of entry
   fits = let n = racked_length (listed entry before) in let c = count_within None last_of structured in omega arith
 
   stays : (rule : Told (List (Folder P))) (reply : Told (Unit {0})) → Changed nb (capacity_of entry) rule (racked entry before) (racked entry before) reply → Moved nb rule entry before entry before reply
-  stays rule reply c = record { same = refl; changed = c }
+  stays rule reply c = record { right = right; same = refl; changed = c }
 
   module _ (f : Folder P) (place : ℕ) where
     pub put_stays : Finds nb f.priority f.stamp (racked entry before) (place, true) → Moved nb (put_rule nb (capacity_of entry) (racked entry before) f) entry before entry before (refused 4 [])
@@ -83,6 +83,7 @@ module _ {P : Type 0} (nb : P → P → Bool) (L : Lawful nb) (entry : List (Nod
           let n = racked_length (listed entry before) in
           let lists : racked exit after ≡ insert (racked entry before) place f = ap folders_in (ins.changed.lists ∙ ap (λ r. later r (listed entry before)) a.0) ∙ folders_inserted (listed entry before) place (record { folder = f }) in
           record {
+            right = ∥∥₁_map right ins.changed.right;
             same = ins.changed.capacity;
             changed = subst (λ fs. Changed nb (capacity_of entry) (put_rule nb (capacity_of entry) (racked entry before) f) (racked entry before) fs (told tt)) (sym lists) (put_done nb L (racked entry before) (capacity_of entry) f place (omega arith) found);
           }
@@ -111,6 +112,7 @@ module _ {P : Type 0} (nb : P → P → Bool) (L : Lawful nb) (entry : List (Nod
       remove_moves x out =
           let lists : racked exit after ≡ remove (racked entry before) place = ap folders_in out.changed.lists ∙ folders_removed (listed entry before) place in
           record {
+            right = ∥∥₁_map right out.changed.right;
             same = out.changed.capacity;
             changed = subst (λ fs. Changed nb (capacity_of entry) (remove_rule nb (racked entry before) p s) (racked entry before) fs (told tt)) (sym lists) (remove_done nb L (racked entry before) (capacity_of entry) p s place fits found);
           }

@@ -6,7 +6,7 @@ ghost use Rattle.journal.specs.Racks.{put_rule, remove_rule};
 ghost use Rattle.journal.specs.Refusals.{list_refusal};
 ghost use Rattle.folders.specs.Ranks.{Finds};
 ghost use Rattle.trees.specs.Structures.{capacity_of};
-ghost use Rattle.tree_racks.specs.Scapegoat.{racked, Moved};
+ghost use Rattle.tree_racks.specs.Scapegoat.{racked, LastsRight, Moved};
 
 use folders::{Racked, place_of};
 use journal::folder::Folder;
@@ -18,21 +18,23 @@ use trees::Tree;
 // An empty tree in any memory.
 pub(crate) fn no_folders<'a, P: Priority>(
     nodes: &'a mut [Node<Racked<P>, Option<Folder<P>>>],
-) -> Tree<'a, Racked<P>>
+) -> Tree<'a, Racked<P>, Option<Folder<P>>>
     ensures empty { racked result.lent.nodes.now result.lent.links ≡ [] }
+    ensures right { LastsRight result.lent.nodes.now result.lent.links }
     ensures capacity { capacity_of result.lent.nodes.now ≡ capacity_of nodes.old }
 {
     Tree::new(nodes)
 }
 
-pub(crate) fn clear_all<P: Priority>(tree: &mut Tree<'_, Racked<P>>)
+pub(crate) fn clear_all<P: Priority>(tree: &mut Tree<'_, Racked<P>, Option<Folder<P>>>)
     ensures empty { racked tree.new.lent.nodes.now tree.new.lent.links ≡ [] }
+    ensures right { LastsRight tree.new.lent.nodes.now tree.new.lent.links }
     ensures capacity { capacity_of tree.new.lent.nodes.now ≡ capacity_of tree.old.lent.nodes.now }
 {
     tree.clear();
 }
 
-pub(crate) fn count_in<P: Priority>(tree: &Tree<'_, Racked<P>>) -> usize
+pub(crate) fn count_in<P: Priority>(tree: &Tree<'_, Racked<P>, Option<Folder<P>>>) -> usize
     ensures value { result ≡ length (racked tree.now.lent.nodes.now tree.now.lent.links) }
     ensures bound { result ≤ capacity_of tree.now.lent.nodes.now }
 {
@@ -40,14 +42,22 @@ pub(crate) fn count_in<P: Priority>(tree: &Tree<'_, Racked<P>>) -> usize
 }
 
 // The folder at a place, or none.
-pub(crate) fn folder_at<P: Priority>(tree: &Tree<'_, Racked<P>>, place: usize) -> Option<Folder<P>>
+pub(crate) fn folder_at<P: Priority>(
+    tree: &Tree<'_, Racked<P>, Option<Folder<P>>>,
+    place: usize,
+) -> Option<Folder<P>>
     ensures { result ≡ slice_get (racked tree.now.lent.nodes.now tree.now.lent.links) place }
 {
-    tree.at(place).map(|item| item.folder)
+    Some(tree.at(place)?.folder)
 }
 
 // How many folders are ahead of a key, and whether the next one has it.
-fn rank_in<P: Priority>(tree: &Tree<'_, Racked<P>>, priority: &P, stamp: u32) -> (usize, bool)
+fn rank_in<P: Priority>(
+    tree: &Tree<'_, Racked<P>, Option<Folder<P>>>,
+    priority: &P,
+    stamp: u32,
+) -> (usize, bool)
+    requires { LastsRight tree.now.lent.nodes.now tree.now.lent.links }
     ensures { Finds P.Priority.not_behind priority.now stamp (racked tree.now.lent.nodes.now tree.now.lent.links) result }
 {
     place_of(&tree.part(), priority, stamp)
@@ -55,30 +65,37 @@ fn rank_in<P: Priority>(tree: &Tree<'_, Racked<P>>, priority: &P, stamp: u32) ->
 
 // Puts a folder in its place.
 pub(crate) fn put_in<P: Priority>(
-    tree: &mut Tree<'_, Racked<P>>,
+    tree: &mut Tree<'_, Racked<P>, Option<Folder<P>>>,
     folder: &Folder<P>,
 ) -> Result<(), ListRefusal>
+    requires { LastsRight tree.old.lent.nodes.now tree.old.lent.links }
     ensures { Moved P.Priority.not_behind (put_rule P.Priority.not_behind (capacity_of tree.old.lent.nodes.now) (racked tree.old.lent.nodes.now tree.old.lent.links) folder.now) tree.old.lent.nodes.now tree.old.lent.links tree.new.lent.nodes.now tree.new.lent.links (reply list_refusal result) }
 {
     let (place, present) = rank_in(tree, &folder.priority, folder.stamp);
     if present {
         return Err(ListRefusal::Present);
     }
-    tree.insert_at(place, Racked { folder: *folder })
-        .map_err(|_| ListRefusal::Full)
+    let Ok(()) = tree.insert_at(place, Racked { folder: *folder }) else {
+        return Err(ListRefusal::Full);
+    };
+    Ok(())
 }
 
 // Removes the folder of a priority and stamp.
 pub(crate) fn remove_from<P: Priority>(
-    tree: &mut Tree<'_, Racked<P>>,
+    tree: &mut Tree<'_, Racked<P>, Option<Folder<P>>>,
     priority: &P,
     stamp: u32,
 ) -> Result<(), ListRefusal>
+    requires { LastsRight tree.old.lent.nodes.now tree.old.lent.links }
     ensures { Moved P.Priority.not_behind (remove_rule P.Priority.not_behind (racked tree.old.lent.nodes.now tree.old.lent.links) priority.now stamp) tree.old.lent.nodes.now tree.old.lent.links tree.new.lent.nodes.now tree.new.lent.links (reply list_refusal result) }
 {
     let (place, present) = rank_in(tree, priority, stamp);
     if !present {
         return Err(ListRefusal::Absent);
     }
-    tree.remove_at(place).map(|_| ()).ok_or(ListRefusal::Absent)
+    let Some(_) = tree.remove_at(place) else {
+        return Err(ListRefusal::Absent);
+    };
+    Ok(())
 }

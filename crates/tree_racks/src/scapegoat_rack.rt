@@ -1,30 +1,25 @@
 // The scapegoat rack: folders in order in a tree over lent nodes.
 ghost use Rattle.std.specs.Prelude.{◌≡◌, []};
 ghost use Rattle.trees.specs.Structures.{capacity_of};
-ghost use Rattle.tree_racks.specs.Scapegoat.{racked};
+ghost use Rattle.tree_racks.specs.Scapegoat.{racked, LastsRight};
 
 use crate::by_rank::{clear_all, count_in, folder_at, no_folders, put_in, remove_from};
 use folders::Racked;
 use journal::folder::Folder;
 use journal::rack::Rack;
 use journal::refusal::ListRefusal;
-use nodes::{Element, Node};
+use nodes::Node;
 use orders::priority::Priority;
 use trees::Tree;
 
-// Folders in order, foremost first, by place in a tree.
+// Folders in order, foremost first, by place in a tree whose summaries are right whatever is called.
 #[derive(Drop)]
-pub struct ScapegoatRack<'a, P: Priority>
-where
-    Racked<P>: Element<Sum = Option<Folder<P>>>,
-{
-    tree: Tree<'a, Racked<P>>,
+pub struct ScapegoatRack<'a, P: Priority> {
+    tree: Tree<'a, Racked<P>, Option<Folder<P>>>,
+    ghost right: { LastsRight tree.lent.nodes.now tree.lent.links },
 }
 
-impl<'a, P: Priority> ScapegoatRack<'a, P>
-where
-    Racked<P>: Element<Sum = Option<Folder<P>>>,
-{
+impl<'a, P: Priority> ScapegoatRack<'a, P> {
     // An empty rack in any memory; what the nodes held is forgotten.
     pub fn new(nodes: &'a mut [Node<Racked<P>, Option<Folder<P>>>]) -> ScapegoatRack<'a, P>
         ensures capacity { capacity_of result.tree.lent.nodes.now ≡ capacity_of nodes.old }
@@ -36,10 +31,7 @@ where
     }
 }
 
-impl<'a, P: Priority> Rack<P> for ScapegoatRack<'a, P>
-where
-    Racked<P>: Element<Sum = Option<Folder<P>>>,
-{
+impl<'a, P: Priority> Rack<P> for ScapegoatRack<'a, P> {
     ghost capacity = { λ r. capacity_of r.tree.lent.nodes.now };
 
     ghost folders = { λ r. racked r.tree.lent.nodes.now r.tree.lent.links };

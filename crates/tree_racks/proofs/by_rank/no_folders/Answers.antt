@@ -6,4 +6,4 @@ pub returns : goal.returns
 returns g c =
     let e = c.new.ensures in
     let d = e.emptied in
-    record { empty = ap folders_in d.lists; capacity = e.capacity }
+    record { empty = ap folders_in d.lists; right = ∣ d.right ∣₁; capacity = e.capacity }
