@@ -1,15 +1,14 @@
 -- A search for a key among folders in order: the last folder of a part tells whether it has a hit, and the first hit stands at the rank.
 use Rattle.std.proofs.Common.{◌≡◌, ℕ, suc, ◌+◌, Bool, true, false, cond, not, ◌||◌, List, [], ◌∷◌, ◌++◌, length, Some, None, Option, sym, refl, ap, ◌∙◌, zero-add, one-add, arith}
 use Rattle.std.specs.List.{slice_get}
+use Rattle.std.specs.Option.{unwrap_or}
 use Rattle.std.proofs.lemmas.List.{map-append}
-use Rattle.std.proofs.lemmas.Option.{slice_get_past}
 use Rattle.journal.specs.declared.folder.Folder.{Folder}
 use Rattle.journal.specs.Folders.{ahead_of_all, in_order}
 use Rattle.journal.specs.Racks.{holds}
 use Rattle.journal.proofs.Ahead.{Lawful as Order, ahead_transitive}
-use Rattle.nodes.specs.Tree.{Tree, leaf, branch, items, size, summary}
-use Rattle.nodes.specs.Hits.{passed, any_hit, first_in, Lawful}
-use Rattle.nodes.proofs.Held.{size_is_length}
+use Rattle.nodes.specs.Tree.{Tree, leaf, branch, items, summary}
+use Rattle.nodes.specs.Hits.{passed, any_hit, first_in, rank_in, Lawful}
 use Rattle.folders.specs.declared.element.Racked.{Racked}
 use Rattle.folders.specs.declared.key.Key.{Key}
 use Rattle.folders.specs.Lasts.{folders_in, folders, last_of}
@@ -89,25 +88,18 @@ module _ {P : Type 0} (nb : P → P → Bool) (L : Order nb) (key : Key P) where
   abbrev ranks : List (Racked P) → ℕ
   ranks rs = rank nb key.priority key.stamp (folders_in rs)
 
-  -- without a hit all are ahead of the key
-  no_hit : (base : ℕ) (rs : List (Racked P)) → first_in (key_rules nb) key base rs ≡ None → length rs ≡ ranks rs
-  no_hit base [] e = refl
-  no_hit base (r ∷ rs) e = go (ahead_of_key nb key.priority key.stamp r.folder) e (no_hit (suc base) rs) ∙ sym (rank_cons nb key.priority key.stamp r.folder (folders_in rs))
+  -- before the first hit stand as many as are ahead of the key, which are all where there is no hit
+  first_ranks : (base : ℕ) (rs : List (Racked P)) → in_order nb (folders_in rs) ≡ true → unwrap_or (first_in (key_rules nb) key base rs) (base + length rs) ≡ base + ranks rs
+  first_ranks base [] o = refl
+  first_ranks base (r ∷ rs) o =
+      go (ahead_of_key nb key.priority key.stamp r.folder) refl (first_ranks (suc base) rs) ∙ ap (λ k. base + k) (sym (rank_cons nb key.priority key.stamp r.folder (folders_in rs)))
     where
-      go : (b : Bool) → cond (not b) (Some base) (first_in (key_rules nb) key (suc base) rs) ≡ None → (first_in (key_rules nb) key (suc base) rs ≡ None → length rs ≡ ranks rs) → suc (length rs) ≡ cond b 1 0 + ranks rs
-      go true e ih = let k = ih e in omega arith
-      go false e ih = let z : ◌≡◌ {A = ℕ} 0 1 = cc in absurd (let o : ⊥ = omega arith in o)
-
-  -- the first hit has as many before it as are ahead of the key
-  first_ranks : (base n : ℕ) (rs : List (Racked P)) → in_order nb (folders_in rs) ≡ true → first_in (key_rules nb) key base rs ≡ Some n → n ≡ base + ranks rs
-  first_ranks base n [] o e = let z : ◌≡◌ {A = ℕ} 0 1 = cc in absurd (let o : ⊥ = omega arith in o)
-  first_ranks base n (r ∷ rs) o e =
-      go (ahead_of_key nb key.priority key.stamp r.folder) refl e (first_ranks (suc base) n rs) ∙ ap (λ k. base + k) (sym (rank_cons nb key.priority key.stamp r.folder (folders_in rs)))
-    where
-      go : (b : Bool) → ahead_of_key nb key.priority key.stamp r.folder ≡ b → cond (not b) (Some base) (first_in (key_rules nb) key (suc base) rs) ≡ Some n → (in_order nb (folders_in rs) ≡ true → first_in (key_rules nb) key (suc base) rs ≡ Some n → n ≡ suc base + ranks rs) → n ≡ base + (cond b 1 0 + ranks rs)
-      go true is e ih = let k = ih (grind arith) e in omega arith
-      go false is e ih =
-          let same : base ≡ n = cc in
+      go : (b : Bool) → ahead_of_key nb key.priority key.stamp r.folder ≡ b → (in_order nb (folders_in rs) ≡ true → unwrap_or (first_in (key_rules nb) key (suc base) rs) (suc base + length rs) ≡ suc base + ranks rs) → unwrap_or (cond (not b) (Some base) (first_in (key_rules nb) key (suc base) rs)) (base + suc (length rs)) ≡ base + (cond b 1 0 + ranks rs)
+      go true is ih =
+          let all : base + suc (length rs) ≡ suc base + length rs = omega arith in
+          let k = ap (unwrap_or (first_in (key_rules nb) key (suc base) rs)) all ∙ ih (grind arith) in
+          omega arith
+      go false is ih =
           let none = none_ahead nb L key.priority key.stamp r.folder (folders_in rs) is (grind arith) in
           omega arith
 
@@ -127,17 +119,10 @@ module _ {P : Type 0} (nb : P → P → Bool) (L : Order nb) (key : Key P) where
           let bare = none_alike nb L key.priority key.stamp r.folder (folders_in rs) is (grind arith) in
           rw none (grind arith)
 
-  pub found_none : (t : Tree (Racked P)) (n : ℕ) → n ≡ size t → first_in (key_rules nb) key 0 (items t) ≡ None → Finds nb key.priority key.stamp (folders t) (n, false)
-  found_none t n sized e o =
-      let all = no_hit 0 (items t) e in
-      let long = size_is_length t in
-      let place : n ≡ ranks (items t) = omega arith in
-      let bare : false ≡ holds nb key.priority key.stamp (folders t) =
-      ap (key_at nb key.priority key.stamp) (sym (slice_get_past (items t) (ranks (items t)) (omega arith))) ∙ held_at_rank (items t) o in
-      cc
-
-  pub found_at : (t : Tree (Racked P)) (place : ℕ) (b : Bool) → first_in (key_rules nb) key 0 (items t) ≡ Some place → b ≡ key_at nb key.priority key.stamp (slice_get (items t) place) → Finds nb key.priority key.stamp (folders t) (place, b)
-  found_at t place b e is o =
-      let at : place ≡ ranks (items t) = first_ranks 0 place (items t) o e ∙ zero-add (ranks (items t)) in
-      let alike : b ≡ holds nb key.priority key.stamp (folders t) = is ∙ ap (λ k. key_at nb key.priority key.stamp (slice_get (items t) k)) at ∙ held_at_rank (items t) o in
-      cc
+  -- what a search by this probe answers, with whether the item there has the key
+  pub ranked_finds : (t : Tree (Racked P)) (answer : ℕ × Option (Racked P)) (b : Bool) → answer ≡ rank_in (key_rules nb) key (items t) → b ≡ key_at nb key.priority key.stamp answer.1 → Finds nb key.priority key.stamp (folders t) (answer.0, b)
+  ranked_finds t answer b is told o =
+      let all : 0 + length (items t) ≡ length (items t) = omega arith in
+      let at : (rank_in (key_rules nb) key (items t)).0 ≡ ranks (items t) = ap (unwrap_or (first_in (key_rules nb) key 0 (items t))) (sym all) ∙ first_ranks 0 (items t) o ∙ zero-add (ranks (items t)) in
+      let alike = ap (λ k. key_at nb key.priority key.stamp (slice_get (items t) k)) at ∙ held_at_rank (items t) o in
+      ap (λ (a : ℕ × Option (Racked P)). (a.0, b)) is ∙ ap (λ n. (n, b)) at ∙ ap (λ (c : Bool). (ranks (items t), c)) (told ∙ ap (λ (a : ℕ × Option (Racked P)). key_at nb key.priority key.stamp a.1) is ∙ alike)

@@ -28,9 +28,6 @@ impl<P: Priority> Element for Racked<P> {
         item: &Racked<P>,
         after: &Option<Folder<P>>,
     ) -> Option<Folder<P>> {
-        match *after {
-            None => Some(item.folder),
-            Some(last) => Some(last),
-        }
+        after.or(Some(item.folder))
     }
 }

@@ -36,10 +36,7 @@ impl<P: Priority> Probe<Racked<P>, Option<Folder<P>>> for Key<P> {
     }
 
     fn hits_part(&self, sum: &Option<Folder<P>>) -> bool {
-        match *sum {
-            None => false,
-            Some(last) => !self.is_behind(&last),
-        }
+        sum.is_some_and(|last| !self.is_behind(&last))
     }
 
     fn pass_item(&self, _item: &Racked<P>) -> Key<P> {

@@ -3,11 +3,11 @@ use Rattle.std.proofs.Common.{◌≡◌, ℕ, suc, ◌+◌, ◌^◌, ◌<◌, �
 use Rattle.std.specs.Option.{option_or}
 use Rattle.nodes.specs.declared.node.Node.{Node}
 use Rattle.nodes.specs.Tree.{Tree, items, size, summary}
-use Rattle.std.specs.List.{slice_get}
-use Rattle.nodes.specs.Holding.{size_at, Holds, Shaped}
+use Rattle.nodes.specs.Holding.{size_at, Holds, Opens}
 use Rattle.nodes.specs.Rules.{Rules}
 use Rattle.nodes.specs.Hits.{passed, any_hit, first_in, last_in, Lawful}
-use Rattle.nodes.proofs.Held.{Opened, Inside, Righted, inside_opened, righted, unique, size_is_length, stored_right}
+use Rattle.nodes.proofs.Held.{Opened, held_leaf, shaped, size_is_length}
+use Rattle.nodes.proofs.Parts.{fork_opened, fork_left, fork_right}
 
 pub or_none : {X : Type 0} (a : Option X) → a ≡ option_or a None
 or_none None = refl
@@ -194,84 +194,64 @@ module _ {P E S : Type 0} {empty : S} {whole : S → E → S → S} {rules : Rul
       let one : Bool → Option ℕ = λ k. option_or (cond k (Some (b + n)) None) (last_in rules p b (items o.before)) in
       last_split ∙ ap (λ l. option_or l (one (rules.hits q node.item))) (last_none rules r (b + n + 1) (items o.after) (told_right j sum sum' made past said)) ∙ ap one (sym miss)
 
--- a search that goes on in a part, and what it looks for there
-pub record Hunted {P E S : Type 0} (empty : S) (whole : S → E → S → S) (nodes : List (Node E S)) (rules : Rules P E S) (link : Option ℕ) (p : P) (t : Tree E) (goal found : Option ℕ) : Type 0 where
-  pub right : Holds true empty whole nodes link t
-  pub law : Lawful empty whole rules p (items t)
-  pub same : goal ≡ found
+-- a search goes on in a part, and what it looks for is what there is to find there
+pub record Hunted {P E S : Type 0} (empty : S) (whole : S → E → S → S) (rules : Rules P E S) (Find : P → ℕ → List E → Option ℕ) (nodes : List (Node E S)) (link : Option ℕ) (p : P) (place : ℕ) (goal : Option ℕ) : Type 0 where
+  pub tree : Tree E
+  pub held : Holds true empty whole nodes link tree
+  pub law : Lawful empty whole rules p (items tree)
+  pub same : goal ≡ Find p place (items tree)
 
 -- what a search inside one part keeps: its places stay small, and it still looks for the same hit
-pub record Hunt {P E S : Type 0} (empty : S) (whole : S → E → S → S) (nodes : List (Node E S)) (rules : Rules P E S) (Find : P → ℕ → List E → Option ℕ) (root link : Option ℕ) (start p : P) (base place : ℕ) (all t : Tree E) : Type 0 where
-  pub room : place + size t ≤ base + size all
-  pub search : Holds true empty whole nodes root all → Lawful empty whole rules start (items all) → Hunted empty whole nodes rules link p t (Find start base (items all)) (Find p place (items t))
+pub record Hunt {P E S : Type 0} (empty : S) (whole : S → E → S → S) (rules : Rules P E S) (Find : P → ℕ → List E → Option ℕ) (all : List (Node E S)) (root : Option ℕ) (start : P) (base : ℕ) (nodes : List (Node E S)) (link : Option ℕ) (p : P) (place : ℕ) : Type 0 where
+  pub room : place + size_at nodes link < 2 ^ 64
+  pub search : (t : Tree E) → Holds true empty whole all root t → Lawful empty whole rules start (items t) → Hunted empty whole rules Find nodes link p place (Find start base (items t))
 
-module _ {P E S : Type 0} {empty : S} {whole : S → E → S → S} {nodes : List (Node E S)} {rules : Rules P E S} {Find : P → ℕ → List E → Option ℕ} {root link : Option ℕ} {start p : P} {base place : ℕ} (w : Inside empty whole nodes root link (Hunt empty whole nodes rules Find root link start p base place)) (i : ℕ) (e : link ≡ Some i) (node : Node E S) (at : slice_get nodes i ≡ Some node) where
-  pub hunt_room : (n : ℕ) → n ≡ size (inside_opened w i e node at).before → base + size_at nodes root < 2 ^ 64 → place + n + 1 < 2 ^ 64
-  hunt_room n s room =
-      let o = inside_opened w i e node at in
-      let sized : size w.rest ≡ suc (size o.before + size o.after) = ap size o.is in
-      let within = w.kept.room in
-      let whole_size = stored_right w.all_held in
-      omega arith
+module _ {P E S : Type 0} {empty : S} {whole : S → E → S → S} {rules : Rules P E S} {Find : P → ℕ → List E → Option ℕ} {nodes : List (Node E S)} {link : Option ℕ} {p : P} {place : ℕ} {goal : Option ℕ} (k : Hunted empty whole rules Find nodes link p place goal) where
+  pub hunted_end : link ≡ None → Find p place [] ≡ None → None ≡ goal
+  hunted_end e bare = sym (k.same ∙ ap (λ u. Find p place (items u)) (held_leaf k.held e) ∙ bare)
 
-  -- what the search knows of the two sides, where it is right and lawful
-  abbrev pub Sides : Type 0
-  Sides = Righted empty whole nodes node (inside_opened w i e node at).before (inside_opened w i e node at).after × Judged empty whole rules p node.item (inside_opened w i e node at).before (inside_opened w i e node at).after
+  module _ {lefts rights : List (Node E S)} {left right : Option ℕ} {at : ℕ} {node : Node E S} (f : Opens nodes link at node lefts left rights right) where
+    pub hunted_judged : Judged empty whole rules p node.item (fork_opened k.held f).before (fork_opened k.held f).after
+    hunted_judged = judged (fork_opened k.held f) k.law
 
-  pub hunt_left : (Sides → Find p place (items w.rest) ≡ Find p place (items (inside_opened w i e node at).before)) → Inside empty whole nodes root node.left (Hunt empty whole nodes rules Find root node.left start p base place)
-  hunt_left same =
-      let o = inside_opened w i e node at in
-      let sized : size w.rest ≡ suc (size o.before + size o.after) = ap size o.is in
-      let within = w.kept.room in
-      record {
-        all = w.all;
-        rest = o.before;
-        all_held = w.all_held;
-        rest_held = o.left;
-        kept = record {
-          room = omega arith;
-          search = λ h law.
-              let k = w.kept.search h law in
-              let r = righted o k.right e at in
-              let j = judged o k.law in
-              record { right = r.left; law = j.left_law; same = k.same ∙ same (r, j) };
-        };
-      }
+    pub hunted_left : Find p place (items k.tree) ≡ Find p place (items (fork_opened k.held f).before) → Hunted empty whole rules Find lefts left p place goal
+    hunted_left same = record { tree = (fork_opened k.held f).before; held = fork_left k.held f; law = hunted_judged.left_law; same = k.same ∙ same }
 
-  pub hunt_right : (n : ℕ) → n ≡ size (inside_opened w i e node at).before → (q : P) → (Sides → q ≡ rules.past (passed rules p (items (inside_opened w i e node at).before)) node.item) → (Sides → Find p place (items w.rest) ≡ Find q (place + n + 1) (items (inside_opened w i e node at).after)) → Inside empty whole nodes root node.right (Hunt empty whole nodes rules Find root node.right start q base (place + n + 1))
-  hunt_right n s q next same =
-      let o = inside_opened w i e node at in
-      let sized : size w.rest ≡ suc (size o.before + size o.after) = ap size o.is in
-      let within = w.kept.room in
-      record {
-        all = w.all;
-        rest = o.after;
-        all_held = w.all_held;
-        rest_held = o.right;
-        kept = record {
-          room = omega arith;
-          search = λ h law.
-              let k = w.kept.search h law in
-              let r = righted o k.right e at in
-              let j = judged o k.law in
-              record { right = r.right; law = subst (λ z. Lawful empty whole rules z (items o.after)) (sym (next (r, j))) j.right_law; same = k.same ∙ same (r, j) };
-        };
-      }
+    pub hunted_right : {r : P} (n : ℕ) → r ≡ rules.past (passed rules p (items (fork_opened k.held f).before)) node.item → Find p place (items k.tree) ≡ Find r (place + n + 1) (items (fork_opened k.held f).after) → Hunted empty whole rules Find rights right r (place + n + 1) goal
+    hunted_right n past same = record { tree = (fork_opened k.held f).after; held = fork_right k.held f; law = subst (λ z. Lawful empty whole rules z (items (fork_opened k.held f).after)) (sym past) hunted_judged.right_law; same = k.same ∙ same }
 
-  -- what the search returns at this node is what it looks for
-  pub hunt_here : {r : Option ℕ} → (Sides → r ≡ Find p place (items w.rest)) → (t : Tree E) → Holds true empty whole nodes root t → Lawful empty whole rules start (items t) → r ≡ Find start base (items t)
-  hunt_here {r} found t h law =
-      let same = unique h w.all_held in
-      let k = w.kept.search (subst (Holds true empty whole nodes root) same h) (subst (λ u. Lawful empty whole rules start (items u)) same law) in
-      let o = inside_opened w i e node at in
-      found (righted o k.right e at, judged o k.law) ∙ sym k.same ∙ ap (λ u. Find start base (items u)) (sym same)
+-- the steps of a search for the first hit, from what was read at a fork
+module _ {P E S : Type 0} {empty : S} {whole : S → E → S → S} {rules : Rules P E S} {nodes : List (Node E S)} {link : Option ℕ} {p : P} {place : ℕ} {goal : Option ℕ} (k : Hunted empty whole rules (first_in rules) nodes link p place goal) {lefts rights : List (Node E S)} {left right : Option ℕ} {at : ℕ} {node : Node E S} (f : Opens nodes link at node lefts left rights right) {part : S} (summed : (t : Tree E) → Holds true empty whole lefts left t → part ≡ summary empty whole t) where
+  pub first_to_left : true ≡ rules.reaches p part → Hunted empty whole rules (first_in rules) lefts left p place goal
+  first_to_left said = hunted_left k f (first_left_way (fork_opened k.held f) (hunted_judged k f) place (summed _ (fork_left k.held f)) said)
 
-module _ {P E S : Type 0} {empty : S} {whole : S → E → S → S} {nodes : List (Node E S)} {rules : Rules P E S} {Find : P → ℕ → List E → Option ℕ} {root : Option ℕ} {start : P} {base : ℕ} where
-  pub hunt_start : Shaped empty whole nodes root → Inside empty whole nodes root root (Hunt empty whole nodes rules Find root root start start base base)
-  hunt_start s = record { all = s.tree; rest = s.tree; all_held = s.holds; rest_held = s.holds; kept = record { room = omega arith; search = λ h law. record { right = h; law = law; same = refl } } }
+  module _ {n : ℕ} (sized : (t : Tree E) → Holds false empty whole lefts left t → n ≡ size t) (said : false ≡ rules.reaches p part) {q : P} (made : q ≡ rules.beyond p part) where
+    pub first_found : true ≡ rules.hits q node.item → Some (place + n) ≡ goal
+    first_found hit =
+        let l = fork_left k.held f in
+        first_here_way (fork_opened k.held f) (hunted_judged k f) place (summed _ l) n (sized _ (shaped l)) said made hit ∙ sym k.same
 
-  pub hunt_end : {link : Option ℕ} {p : P} {place : ℕ} {r : Option ℕ} (w : Inside empty whole nodes root link (Hunt empty whole nodes rules Find root link start p base place)) → r ≡ Find p place (items w.rest) → (t : Tree E) → Holds true empty whole nodes root t → Lawful empty whole rules start (items t) → r ≡ Find start base (items t)
-  hunt_end w found t h law =
-      let same = unique h w.all_held in
-      let k = w.kept.search (subst (Holds true empty whole nodes root) same h) (subst (λ u. Lawful empty whole rules start (items u)) same law) in
-      found ∙ sym k.same ∙ ap (λ u. Find start base (items u)) (sym same)
+    pub first_to_right : {r : P} → false ≡ rules.hits q node.item → r ≡ rules.past q node.item → Hunted empty whole rules (first_in rules) rights right r (place + n + 1) goal
+    first_to_right miss past =
+        let l = fork_left k.held f in
+        let j = hunted_judged k f in
+        hunted_right k f n (later_is j (summed _ l) made past) (first_right_way (fork_opened k.held f) j place (summed _ l) n (sized _ (shaped l)) said made miss past)
+
+-- the steps of a search for the last hit
+module _ {P E S : Type 0} {empty : S} {whole : S → E → S → S} {rules : Rules P E S} {nodes : List (Node E S)} {link : Option ℕ} {p : P} {place : ℕ} {goal : Option ℕ} (k : Hunted empty whole rules (last_in rules) nodes link p place goal) {lefts rights : List (Node E S)} {left right : Option ℕ} {at : ℕ} {node : Node E S} (f : Opens nodes link at node lefts left rights right) {n : ℕ} (sized : (t : Tree E) → Holds false empty whole lefts left t → n ≡ size t) {part later : S} (summed : (t : Tree E) → Holds true empty whole lefts left t → part ≡ summary empty whole t) (summed' : (t : Tree E) → Holds true empty whole rights right t → later ≡ summary empty whole t) {q r : P} (made : q ≡ rules.beyond p part) (past : r ≡ rules.past q node.item) where
+  pub last_to_right : true ≡ rules.reaches r later → Hunted empty whole rules (last_in rules) rights right r (place + n + 1) goal
+  last_to_right said =
+      let l = fork_left k.held f in
+      let j = hunted_judged k f in
+      hunted_right k f n (later_is j (summed _ l) made past) (last_right_way (fork_opened k.held f) j place (summed _ l) (summed' _ (fork_right k.held f)) n (sized _ (shaped l)) made past said)
+
+  module _ (said : false ≡ rules.reaches r later) where
+    pub last_found : true ≡ rules.hits q node.item → Some (place + n) ≡ goal
+    last_found hit =
+        let l = fork_left k.held f in
+        last_here_way (fork_opened k.held f) (hunted_judged k f) place (summed _ l) (summed' _ (fork_right k.held f)) n (sized _ (shaped l)) made past said hit ∙ sym k.same
+
+    pub last_to_left : false ≡ rules.hits q node.item → Hunted empty whole rules (last_in rules) lefts left p place goal
+    last_to_left miss =
+        let l = fork_left k.held f in
+        hunted_left k f (last_left_way (fork_opened k.held f) (hunted_judged k f) place (summed _ l) (summed' _ (fork_right k.held f)) n (sized _ (shaped l)) made past said miss)

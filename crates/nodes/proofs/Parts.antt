@@ -1,12 +1,12 @@
 -- What is known of a part from its type: that a slice holds some tree there, but not which.
-use Rattle.std.proofs.Common.{◌≡◌, ℕ, suc, ◌+◌, ◌<◌, Bool, List, length, Some, Option, sym, refl, ap, ◌∙◌, subst, arith}
+use Rattle.std.proofs.Common.{◌≡◌, ℕ, suc, ◌+◌, ◌^◌, ◌<◌, Bool, List, length, Some, Option, sym, refl, ap, ◌∙◌, subst, arith}
 use Rattle.std.proofs.Math.Logic.{∥∥₁_elim, ∥∥₁_map}
 use Rattle.std.proofs.Math.Bridge.{le_prop}
 use Rattle.std.specs.Coded.{Coded-set, coded_ℕ}
 use Rattle.std.specs.List.{slice_get}
 use Rattle.nodes.specs.declared.node.Node.{Node}
 use Rattle.nodes.specs.Tree.{Tree, size}
-use Rattle.nodes.specs.Holding.{Holds, Shaped, Opens, size_at}
+use Rattle.nodes.specs.Holding.{Holds, Shaped, Opens, stored_size, size_at}
 use Rattle.nodes.proofs.Held.{Opened, opened, held_within, stored_right}
 
 module _ {E S : Type 0} {empty : S} {whole : S → E → S → S} {nodes : List (Node E S)} {link : Option ℕ} (s : ∥ Shaped empty whole nodes link ∥₁) {slot : ℕ} (e : link ≡ Some slot) where
@@ -20,8 +20,8 @@ module _ {E S : Type 0} {empty : S} {whole : S → E → S → S} {nodes : List 
     pub right_part : ∥ Shaped empty whole nodes node.right ∥₁
     right_part = ∥∥₁_map s (λ h. let o = opened h.holds slot e node at in record { tree = o.after; holds = o.right })
 
-    pub part_opens : Opens nodes link slot node nodes node.left nodes node.right
-    part_opens = record {
+    pub part_opens : node.size < 2 ^ 64 → Opens nodes link slot node nodes node.left nodes node.right
+    part_opens small = record {
       leads = e;
       stands = at;
       same_left = refl;
@@ -34,6 +34,9 @@ module _ {E S : Type 0} {empty : S} {whole : S → E → S → S} {nodes : List 
           let left = stored_right o.left in
           let right = stored_right o.right in
           omega arith);
+      fits =
+          let stored : size_at nodes link ≡ node.size = ap (size_at nodes) e ∙ ap stored_size at in
+          omega arith;
     }
 
 -- the tree that a part holds, opened with it

@@ -54,9 +54,9 @@ module _ {E S : Type 0} {empty : S} {whole : S → E → S → S} {nodes : List 
     pub place_here : rest ≡ n → (Some node.item ≡ item) × (Some at ≡ slot)
     place_here h =
         let o = fork_opened p.held f in
-        let s = sized _ (fork_left p.held f) in
-        ( sym (p.item_there ∙ ap (λ u. slice_get (items u) rest) o.is ∙ at_here (items o.before) node.item (items o.after) n rest (size_is_length o.before ∙ sym s) h)
-        , sym (p.slot_there ∙ ap (λ u. slice_get (slots u) rest) o.is ∙ at_here (slots o.before) at (slots o.after) n rest (slots_long o.before ∙ sym s) h)
+        let s = sized _ (fork_left p.held f) in (
+          sym (p.item_there ∙ ap (λ u. slice_get (items u) rest) o.is ∙ at_here (items o.before) node.item (items o.after) n rest (size_is_length o.before ∙ sym s) h),
+          sym (p.slot_there ∙ ap (λ u. slice_get (slots u) rest) o.is ∙ at_here (slots o.before) at (slots o.after) n rest (slots_long o.before ∙ sym s) h),
         )
 
     pub place_right : n < rest → Place empty whole rights right (rest - n - 1) item slot

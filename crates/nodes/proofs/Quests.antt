@@ -1,15 +1,16 @@
 -- What a search over the whole tree keeps while it goes down, with the nearest mark behind it.
 use Rattle.std.proofs.Common.{◌≡◌, ℕ, suc, ◌+◌, ◌-◌, ◌^◌, ◌<◌, ◌≤◌, Bool, true, false, ◌||◌, List, [], ◌∷◌, ◌++◌, length, take, drop, Some, None, Option, sym, refl, ap, ◌∙◌, subst, append_assoc, arith, length-drop, take-append-drop, take_all}
-use Rattle.std.proofs.lemmas.List.{drop_all, nil_from_length, length_push}
+use Rattle.std.proofs.lemmas.List.{drop_all, length_push}
 use Rattle.std.specs.Option.{option_or}
 use Rattle.nodes.specs.declared.node.Node.{Node}
+use Rattle.nodes.specs.declared.element.Element.{Ghosts}
 use Rattle.nodes.specs.declared.mark.Mark.{Mark}
 use Rattle.nodes.specs.Tree.{Tree, items, size, summary, before_of, onward, up_to}
-use Rattle.std.specs.List.{slice_get}
-use Rattle.nodes.specs.Holding.{size_at, Holds, Shaped}
+use Rattle.nodes.specs.Holding.{size_at, Holds, Opens}
 use Rattle.nodes.specs.Rules.{Rules}
 use Rattle.nodes.specs.Hits.{passed, any_hit, first_in, last_in, Lawful}
-use Rattle.nodes.proofs.Held.{Opened, Inside, Righted, inside_opened, righted, unique, same_tree, size_is_length, stored_right, held_leaf}
+use Rattle.nodes.proofs.Held.{Opened, held_leaf, shaped, size_is_length}
+use Rattle.nodes.proofs.Parts.{fork_opened, fork_left, fork_right}
 use Rattle.nodes.proofs.Fronts.{front_left, front_right, back_left, back_right}
 use Rattle.nodes.proofs.Hunts.{Judged, judged, here_is, later_is, told_left, passed_append, first_append, first_some, first_none, last_append, last_some, last_none, any_append, or_none, or_assoc}
 
@@ -17,124 +18,45 @@ or_false : (b : Bool) → (b || false) ≡ b
 or_false true = refl
 or_false false = refl
 
--- a mark leads to a part of the tree
-abbrev pub Safe : {P E S : Type 0} → S → (S → E → S → S) → List (Node E S) → ℕ → Option (Mark P) → Type 0
-Safe empty whole nodes total None = Unit {0}
-Safe empty whole nodes total (Some m) = Shaped empty whole nodes (Some m.slot) × (m.place + size_at nodes (Some m.slot) ≤ total)
-
 -- what the search would find at the mark
-abbrev pub Means : {P E S : Type 0} → S → (S → E → S → S) → List (Node E S) → Rules P E S → (P → ℕ → Tree E → Option ℕ) → Option (Mark P) → Option ℕ → Type 0
-Means empty whole nodes rules Side None later = later ≡ None
-Means {E = E} empty whole nodes rules Side (Some m) later = (t : Tree E) × Holds true empty whole nodes (Some m.slot) t × Lawful empty whole rules m.probe (items t) × (later ≡ Side m.probe m.place t)
+abbrev pub Means : {P E S : Type 0} {e : Ghosts E S} → Rules P E S → (P → ℕ → Tree E → Option ℕ) → Option (Mark E P S e) → Option ℕ → Type 0
+Means rules Side None later = later ≡ None
+Means {E = E} {e = e} rules Side (Some m) later = (t : Tree E) × Holds true e.empty e.whole m.part.nodes.now m.part.link t × Lawful e.empty e.whole rules m.probe (items t) × (later ≡ Side m.probe m.place t)
 
-pub record Quested {P E S : Type 0} (empty : S) (whole : S → E → S → S) (nodes : List (Node E S)) (rules : Rules P E S) (Rest : P → ℕ → ℕ → List E → Option ℕ) (Side : P → ℕ → Tree E → Option ℕ) (link : Option ℕ) (p : P) (place rest : ℕ) (best : Option (Mark P)) (t : Tree E) (goal : Option ℕ) : Type 0 where
-  pub right : Holds true empty whole nodes link t
-  pub law : Lawful empty whole rules p (items t)
+-- a search has come to a part: what it looks for is in the rest of that part, or else what the mark means
+pub record Quested {P E S : Type 0} {e : Ghosts E S} (rules : Rules P E S) (Rest : P → ℕ → ℕ → List E → Option ℕ) (Side : P → ℕ → Tree E → Option ℕ) (nodes : List (Node E S)) (link : Option ℕ) (p : P) (place rest : ℕ) (best : Option (Mark E P S e)) (goal : Option ℕ) : Type 0 where
+  pub tree : Tree E
+  pub held : Holds true e.empty e.whole nodes link tree
+  pub law : Lawful e.empty e.whole rules p (items tree)
   pub later : Option ℕ
-  pub means : Means empty whole nodes rules Side best later
-  pub same : goal ≡ option_or (Rest p place rest (items t)) later
+  pub means : Means rules Side best later
+  pub same : goal ≡ option_or (Rest p place rest (items tree)) later
 
-pub record Quest {P E S : Type 0} (empty : S) (whole : S → E → S → S) (nodes : List (Node E S)) (rules : Rules P E S) (Rest : P → ℕ → ℕ → List E → Option ℕ) (Side : P → ℕ → Tree E → Option ℕ) (root link : Option ℕ) (start p : P) (from place rest : ℕ) (best : Option (Mark P)) (all t : Tree E) : Type 0 where
-  pub fits : size all < 2 ^ 64
-  pub room : place + size t ≤ size all
-  pub safe : Safe empty whole nodes (size all) best
-  pub search : Holds true empty whole nodes root all → Lawful empty whole rules start (items all) → Quested empty whole nodes rules Rest Side link p place rest best t (Rest start 0 from (items all))
+-- what a search over the whole tree keeps; that its places stay small rests on the first size that it reads
+pub record Quest {P E S : Type 0} {e : Ghosts E S} (rules : Rules P E S) (Rest : P → ℕ → ℕ → List E → Option ℕ) (Side : P → ℕ → Tree E → Option ℕ) (all : List (Node E S)) (root : Option ℕ) (start : P) (from : ℕ) (nodes : List (Node E S)) (link : Option ℕ) (p : P) (place rest : ℕ) (best : Option (Mark E P S e)) : Type 0 where
+  pub room : size_at nodes link < 2 ^ 64 → place + size_at nodes link < 2 ^ 64
+  pub search : (t : Tree E) → Holds true e.empty e.whole all root t → Lawful e.empty e.whole rules start (items t) → Quested rules Rest Side nodes link p place rest best (Rest start 0 from (items t))
 
-module _ {P E S : Type 0} {empty : S} {whole : S → E → S → S} {nodes : List (Node E S)} {rules : Rules P E S} {Rest : P → ℕ → ℕ → List E → Option ℕ} {Side : P → ℕ → Tree E → Option ℕ} {root link : Option ℕ} {start p : P} {from place rest : ℕ} {best : Option (Mark P)} (w : Inside empty whole nodes root link (Quest empty whole nodes rules Rest Side root link start p from place rest best)) where
+module _ {P E S : Type 0} {e : Ghosts E S} {rules : Rules P E S} {Rest : P → ℕ → ℕ → List E → Option ℕ} {Side : P → ℕ → Tree E → Option ℕ} {nodes : List (Node E S)} {link : Option ℕ} {p : P} {place rest : ℕ} {best : Option (Mark E P S e)} {goal : Option ℕ} (k : Quested rules Rest Side nodes link p place rest best goal) where
   -- at the end of the path the answer is what the mark means
-  quest_end : link ≡ None → ((q : P) (k r : ℕ) → Rest q k r [] ≡ None) → (r : Option ℕ) → ((later : Option ℕ) → Means empty whole nodes rules Side best later → r ≡ later) → (t : Tree E) → Holds true empty whole nodes root t → Lawful empty whole rules start (items t) → r ≡ Rest start 0 from (items t)
-  quest_end e bare r answers t h law =
-      let same = unique h w.all_held in
-      let k = w.kept.search (same_tree h w.all_held) (subst (λ u. Lawful empty whole rules start (items u)) same law) in
-      answers k.later k.means ∙ sym (k.same ∙ ap (λ u. option_or (Rest p place rest (items u)) k.later) (held_leaf w.rest_held e) ∙ ap (λ z. option_or z k.later) (bare p place rest)) ∙ ap (λ u. Rest start 0 from (items u)) (sym same)
+  quested_end : link ≡ None → Rest p place rest [] ≡ None → goal ≡ k.later
+  quested_end none bare = k.same ∙ ap (λ u. option_or (Rest p place rest (items u)) k.later) (held_leaf k.held none) ∙ ap (λ z. option_or z k.later) bare
 
-  pub quest_none : link ≡ None → ((q : P) (k r : ℕ) → Rest q k r [] ≡ None) → best ≡ None → (t : Tree E) → Holds true empty whole nodes root t → Lawful empty whole rules start (items t) → None ≡ Rest start 0 from (items t)
-  quest_none e bare b = quest_end e bare None (λ later means. sym (subst (λ o. Means empty whole nodes rules Side o later) b means))
+  pub quested_none : link ≡ None → Rest p place rest [] ≡ None → best ≡ None → None ≡ goal
+  quested_none none bare b = sym (quested_end none bare ∙ subst (λ o. Means rules Side o k.later) b k.means)
 
-  pub quest_some : link ≡ None → ((q : P) (k r : ℕ) → Rest q k r [] ≡ None) → (m : Mark P) → best ≡ Some m → (r : Option ℕ) → ((t : Tree E) → Holds true empty whole nodes (Some m.slot) t → Lawful empty whole rules m.probe (items t) → r ≡ Side m.probe m.place t) → (t : Tree E) → Holds true empty whole nodes root t → Lawful empty whole rules start (items t) → r ≡ Rest start 0 from (items t)
-  quest_some e bare m b r found = quest_end e bare r (λ later means. let k = subst (λ o. Means empty whole nodes rules Side o later) b means in found k.0 k.1 k.2 ∙ sym k.3)
+  pub quested_some : link ≡ None → Rest p place rest [] ≡ None → {m : Mark E P S e} → best ≡ Some m → {found : Option ℕ} → ((t : Tree E) → Holds true e.empty e.whole m.part.nodes.now m.part.link t → Lawful e.empty e.whole rules m.probe (items t) → found ≡ Side m.probe m.place t) → found ≡ goal
+  quested_some none bare b finds =
+      let m = subst (λ o. Means rules Side o k.later) b k.means in
+      finds m.0 m.1 m.2 ∙ sym m.3 ∙ sym (quested_end none bare)
 
-  pub quest_mark : (m : Mark P) → best ≡ Some m → Shaped empty whole nodes (Some m.slot) × (m.place + size_at nodes (Some m.slot) < 2 ^ 64)
-  quest_mark m e =
-      let s = subst (Safe empty whole nodes (size w.all)) e w.kept.safe in
-      let f = w.kept.fits in
-      let b = s.1 in
-      (s.0, omega arith)
+  module _ {lefts rights : List (Node E S)} {left right : Option ℕ} {at : ℕ} {node : Node E S} (f : Opens nodes link at node lefts left rights right) where
+    -- a step to either side, with what is marked then
+    quested_left : {best' : Option (Mark E P S e)} (later : Option ℕ) → Means rules Side best' later → option_or (Rest p place rest (items k.tree)) k.later ≡ option_or (Rest p place rest (items (fork_opened k.held f).before)) later → Quested rules Rest Side lefts left p place rest best' goal
+    quested_left later means same = record { tree = (fork_opened k.held f).before; held = fork_left k.held f; law = (judged (fork_opened k.held f) k.law).left_law; later = later; means = means; same = k.same ∙ same }
 
-  module _ (i : ℕ) (e : link ≡ Some i) (node : Node E S) (at : slice_get nodes i ≡ Some node) where
-    pub quest_room : (n : ℕ) → n ≡ size (inside_opened w i e node at).before → place + n + 1 < 2 ^ 64
-    quest_room n s =
-        let o = inside_opened w i e node at in
-        let sized : size w.rest ≡ suc (size o.before + size o.after) = ap size o.is in
-        let within = w.kept.room in
-        let f = w.kept.fits in
-        omega arith
-
-    abbrev pub Known : Type 0
-    Known = Righted empty whole nodes node (inside_opened w i e node at).before (inside_opened w i e node at).after × Judged empty whole rules p node.item (inside_opened w i e node at).before (inside_opened w i e node at).after × (Holds true empty whole nodes link w.rest × Lawful empty whole rules p (items w.rest))
-
-    -- a step to the left, and what is then marked
-    pub quest_left : {best' : Option (Mark P)} → Safe empty whole nodes (size w.all) best' → (Known → (later : Option ℕ) → Means empty whole nodes rules Side best later → (later' : Option ℕ) × Means empty whole nodes rules Side best' later' × (option_or (Rest p place rest (items w.rest)) later ≡ option_or (Rest p place rest (items (inside_opened w i e node at).before)) later')) → Inside empty whole nodes root node.left (Quest empty whole nodes rules Rest Side root node.left start p from place rest best')
-    quest_left safe step =
-        let o = inside_opened w i e node at in
-        let sized : size w.rest ≡ suc (size o.before + size o.after) = ap size o.is in
-        let within = w.kept.room in
-        record {
-          all = w.all;
-          rest = o.before;
-          all_held = w.all_held;
-          rest_held = o.left;
-          kept = record {
-            fits = w.kept.fits;
-            room = omega arith;
-            safe = safe;
-            search = λ h law.
-                let k = w.kept.search h law in
-                let r = righted o k.right e at in
-                let j = judged o k.law in
-                let next = step (r, j, (k.right, k.law)) k.later k.means in
-                record { right = r.left; law = j.left_law; later = next.0; means = next.1; same = k.same ∙ next.2 };
-          };
-        }
-
-    -- the same to the right
-    pub quest_right : {best' : Option (Mark P)} → Safe empty whole nodes (size w.all) best' → (n : ℕ) → n ≡ size (inside_opened w i e node at).before → (q : P) (rest' : ℕ) → (Known → q ≡ rules.past (passed rules p (items (inside_opened w i e node at).before)) node.item) → (Known → (later : Option ℕ) → Means empty whole nodes rules Side best later → (later' : Option ℕ) × Means empty whole nodes rules Side best' later' × (option_or (Rest p place rest (items w.rest)) later ≡ option_or (Rest q (place + n + 1) rest' (items (inside_opened w i e node at).after)) later')) → Inside empty whole nodes root node.right (Quest empty whole nodes rules Rest Side root node.right start q from (place + n + 1) rest' best')
-    quest_right safe n s q rest' past step =
-        let o = inside_opened w i e node at in
-        let sized : size w.rest ≡ suc (size o.before + size o.after) = ap size o.is in
-        let within = w.kept.room in
-        record {
-          all = w.all;
-          rest = o.after;
-          all_held = w.all_held;
-          rest_held = o.right;
-          kept = record {
-            fits = w.kept.fits;
-            room = omega arith;
-            safe = safe;
-            search = λ h law.
-                let k = w.kept.search h law in
-                let r = righted o k.right e at in
-                let j = judged o k.law in
-                let next = step (r, j, (k.right, k.law)) k.later k.means in
-                record { right = r.right; law = subst (λ z. Lawful empty whole rules z (items o.after)) (sym (past (r, j, (k.right, k.law)))) j.right_law; later = next.0; means = next.1; same = k.same ∙ next.2 };
-          };
-        }
-
-    -- a mark at this node leads to a part of the tree
-    pub quest_marked : Safe empty whole nodes (size w.all) (Some (record { slot = i; probe = p; place = place }))
-    quest_marked =
-        let within = w.kept.room in
-        let held = subst (λ l. Holds false empty whole nodes l w.rest) e w.rest_held in
-        let sized = stored_right held in
-        (record { tree = w.rest; holds = held }, omega arith)
-
-    pub quest_means : Holds true empty whole nodes link w.rest → Lawful empty whole rules p (items w.rest) → Means empty whole nodes rules Side (Some (record { slot = i; probe = p; place = place })) (Side p place w.rest)
-    quest_means right law = (w.rest, subst (λ l. Holds true empty whole nodes l w.rest) e right, law, refl)
-
-module _ {P E S : Type 0} {empty : S} {whole : S → E → S → S} {nodes : List (Node E S)} {rules : Rules P E S} {Rest : P → ℕ → ℕ → List E → Option ℕ} {Side : P → ℕ → Tree E → Option ℕ} {root : Option ℕ} {start : P} {from : ℕ} where
-  pub quest_start : (s : Shaped empty whole nodes root) → size s.tree < 2 ^ 64 → Inside empty whole nodes root root (Quest empty whole nodes rules Rest Side root root start start from 0 from None)
-  quest_start s fits = record { all = s.tree; rest = s.tree; all_held = s.holds; rest_held = s.holds; kept = record { fits = fits; room = omega arith; safe = tt; search = λ h law. record { right = h; law = law; later = None; means = refl; same = or_none (Rest start 0 from (items s.tree)) } } }
+    quested_right : {best' : Option (Mark E P S e)} (later : Option ℕ) → Means rules Side best' later → {r : P} (n rest' : ℕ) → r ≡ rules.past (passed rules p (items (fork_opened k.held f).before)) node.item → option_or (Rest p place rest (items k.tree)) k.later ≡ option_or (Rest r (place + n + 1) rest' (items (fork_opened k.held f).after)) later → Quested rules Rest Side rights right r (place + n + 1) rest' best' goal
+    quested_right later means n rest' past same = record { tree = (fork_opened k.held f).after; held = fork_right k.held f; law = subst (λ z. Lawful e.empty e.whole rules z (items (fork_opened k.held f).after)) (sym past) (judged (fork_opened k.held f) k.law).right_law; later = later; means = means; same = k.same ∙ same }
 
 -- what is looked for in a part, and at a mark, by a search for the first hit, and by one for the last
 abbrev pub first_rest_of : {P E S : Type 0} → Rules P E S → P → ℕ → ℕ → List E → Option ℕ
@@ -152,15 +74,6 @@ last_side rules p place t = last_in rules p place (up_to t)
 module _ {P E S : Type 0} (rules : Rules P E S) where
   pub first_bare : (p : P) (k r : ℕ) → first_rest_of rules p k r [] ≡ None
   first_bare p k r = ap (first_in rules (passed rules p (take r [])) (k + r)) (drop_all r [] (omega arith))
-
-  pub first_of_none : (p : P) (k : ℕ) (t : Tree E) → size t ≡ 0 → first_in rules (passed rules p (take k (items t))) k (drop k (items t)) ≡ None
-  first_of_none p k t e = let l = size_is_length t in ap (first_in rules (passed rules p (take k (items t))) k) (drop_all k (items t) (omega arith))
-
-  pub last_of_none : (p : P) (k : ℕ) (t : Tree E) → size t ≡ 0 → last_in rules p 0 (take k (items t)) ≡ None
-  last_of_none p k t e =
-      let l = size_is_length t in
-      let bare : items t ≡ [] = nil_from_length (items t) (omega arith) in
-      ap (λ l. last_in rules p 0 (take k l)) bare ∙ ap (last_in rules p 0) (take_all k [] (omega arith))
 
   pub last_bare : (p : P) (k r : ℕ) → last_rest_of rules p k r [] ≡ None
   last_bare p k r = ap (last_in rules p k) (take_all r [] (omega arith))
@@ -257,3 +170,47 @@ module _ {P E S : Type 0} {empty : S} {whole : S → E → S → S} {rules : Rul
       let R = last_rest_of rules r (place + n + 1) (rest - n - 1) (items o.after) in
       let nothing : last_side rules p place t ≡ None = ap (last_side rules p place) o.is ∙ last_none rules p place (items o.before ++ (node.item ∷ [])) (told_back said) in
       ap (λ z. option_or z later) (last_rest_right h past) ∙ or_assoc R (last_side rules p place t) later ∙ ap (λ z. option_or R (option_or z later)) nothing
+
+-- the steps of both searches, from what was read at a fork; a mark is left at the part itself
+module _ {P E S : Type 0} {e : Ghosts E S} {rules : Rules P E S} {nodes : List (Node E S)} {link : Option ℕ} {p : P} {place rest : ℕ} {best : Option (Mark E P S e)} {goal : Option ℕ} (k : Quested rules (first_rest_of rules) (first_side rules) nodes link p place rest best goal) {lefts rights : List (Node E S)} {left right : Option ℕ} {at : ℕ} {node : Node E S} (f : Opens nodes link at node lefts left rights right) {n : ℕ} (sized : (t : Tree E) → Holds false e.empty e.whole lefts left t → n ≡ size t) {part : S} (summed : (t : Tree E) → Holds true e.empty e.whole lefts left t → part ≡ summary e.empty e.whole t) {q : P} (made : q ≡ rules.beyond p part) where
+  pub first_quest_right : {r : P} → n < rest → r ≡ rules.past q node.item → Quested rules (first_rest_of rules) (first_side rules) rights right r (place + n + 1) (rest - n - 1) best goal
+  first_quest_right h past =
+      let o = fork_opened k.held f in
+      let l = fork_left k.held f in
+      let j = judged o k.law in
+      quested_right k f k.later k.means n (rest - n - 1) (later_is j (summed _ l) made past) (ap (λ z. option_or z k.later) (first_rest_right o j place rest n (sized _ (shaped l)) (summed _ l) made h past))
+
+  pub first_quest_left : rest ≤ n → ((t : Tree E) → Holds true e.empty e.whole rights right t → false ≡ (rules.hits q node.item || rules.reaches (rules.past q node.item) (summary e.empty e.whole t))) → Quested rules (first_rest_of rules) (first_side rules) lefts left p place rest best goal
+  first_quest_left h said =
+      let o = fork_opened k.held f in
+      let l = fork_left k.held f in
+      quested_left k f k.later k.means (first_leave_way o (judged o k.law) place rest n (sized _ (shaped l)) (summed _ l) made h (said _ (fork_right k.held f)) k.later)
+
+module _ {P E S : Type 0} {e : Ghosts E S} {rules : Rules P E S} {rest : ℕ} {best : Option (Mark E P S e)} {goal : Option ℕ} {m : Mark E P S e} (k : Quested rules (first_rest_of rules) (first_side rules) m.part.nodes.now m.part.link m.probe m.place rest best goal) {lefts rights : List (Node E S)} {left right : Option ℕ} {at : ℕ} {node : Node E S} (f : Opens m.part.nodes.now m.part.link at node lefts left rights right) {n : ℕ} (sized : (t : Tree E) → Holds false e.empty e.whole lefts left t → n ≡ size t) {part : S} (summed : (t : Tree E) → Holds true e.empty e.whole lefts left t → part ≡ summary e.empty e.whole t) {q : P} (made : q ≡ rules.beyond m.probe part) where
+  pub first_quest_marked : rest ≤ n → ((t : Tree E) → Holds true e.empty e.whole rights right t → true ≡ (rules.hits q node.item || rules.reaches (rules.past q node.item) (summary e.empty e.whole t))) → Quested rules (first_rest_of rules) (first_side rules) lefts left m.probe m.place rest (Some m) goal
+  first_quest_marked h said =
+      let o = fork_opened k.held f in
+      let l = fork_left k.held f in
+      quested_left k f (first_side rules m.probe m.place k.tree) (k.tree, k.held, k.law, refl) (first_mark_way o (judged o k.law) m.place rest n (sized _ (shaped l)) (summed _ l) made h (said _ (fork_right k.held f)) k.later)
+
+module _ {P E S : Type 0} {e : Ghosts E S} {rules : Rules P E S} {nodes : List (Node E S)} {link : Option ℕ} {p : P} {place rest : ℕ} {best : Option (Mark E P S e)} {goal : Option ℕ} (k : Quested rules (last_rest_of rules) (last_side rules) nodes link p place rest best goal) {lefts rights : List (Node E S)} {left right : Option ℕ} {at : ℕ} {node : Node E S} (f : Opens nodes link at node lefts left rights right) {n : ℕ} (sized : (t : Tree E) → Holds false e.empty e.whole lefts left t → n ≡ size t) {part : S} (summed : (t : Tree E) → Holds true e.empty e.whole lefts left t → part ≡ summary e.empty e.whole t) {q : P} (made : q ≡ rules.beyond p part) where
+  pub last_quest_left : rest ≤ n → Quested rules (last_rest_of rules) (last_side rules) lefts left p place rest best goal
+  last_quest_left h =
+      let o = fork_opened k.held f in
+      let l = fork_left k.held f in
+      quested_left k f k.later k.means (ap (λ z. option_or z k.later) (last_rest_left o (judged o k.law) place rest n (sized _ (shaped l)) (summed _ l) made h))
+
+  pub last_quest_right : {r : P} → n < rest → false ≡ (rules.reaches p part || rules.hits q node.item) → r ≡ rules.past q node.item → Quested rules (last_rest_of rules) (last_side rules) rights right r (place + n + 1) (rest - n - 1) best goal
+  last_quest_right h said past =
+      let o = fork_opened k.held f in
+      let l = fork_left k.held f in
+      let j = judged o k.law in
+      quested_right k f k.later k.means n (rest - n - 1) (later_is j (summed _ l) made past) (last_leave_way o j place rest n (sized _ (shaped l)) (summed _ l) made h said past k.later)
+
+module _ {P E S : Type 0} {e : Ghosts E S} {rules : Rules P E S} {rest : ℕ} {best : Option (Mark E P S e)} {goal : Option ℕ} {m : Mark E P S e} (k : Quested rules (last_rest_of rules) (last_side rules) m.part.nodes.now m.part.link m.probe m.place rest best goal) {lefts rights : List (Node E S)} {left right : Option ℕ} {at : ℕ} {node : Node E S} (f : Opens m.part.nodes.now m.part.link at node lefts left rights right) {n : ℕ} (sized : (t : Tree E) → Holds false e.empty e.whole lefts left t → n ≡ size t) {part : S} (summed : (t : Tree E) → Holds true e.empty e.whole lefts left t → part ≡ summary e.empty e.whole t) {q : P} (made : q ≡ rules.beyond m.probe part) where
+  pub last_quest_marked : {r : P} → n < rest → true ≡ (rules.reaches m.probe part || rules.hits q node.item) → r ≡ rules.past q node.item → Quested rules (last_rest_of rules) (last_side rules) rights right r (m.place + n + 1) (rest - n - 1) (Some m) goal
+  last_quest_marked h said past =
+      let o = fork_opened k.held f in
+      let l = fork_left k.held f in
+      let j = judged o k.law in
+      quested_right k f (last_side rules m.probe m.place k.tree) (k.tree, k.held, k.law, refl) n (rest - n - 1) (later_is j (summed _ l) made past) (last_mark_way o j m.place rest n (sized _ (shaped l)) (summed _ l) made h said past k.later)

@@ -1,6 +1,7 @@
 -- The first and the last hit of a probe in a list, and when a probe is lawful.
-use Rattle.std.specs.Prelude.{◌≡◌, ℕ, suc, Bool, false, cond, ◌||◌, List, [], ◌∷◌, ◌++◌, Some, None, Option}
-use Rattle.std.specs.Option.{option_or}
+use Rattle.std.specs.Prelude.{◌≡◌, ℕ, suc, Bool, false, cond, ◌||◌, List, [], ◌∷◌, ◌++◌, length, Some, None, Option}
+use Rattle.std.specs.Option.{option_or, unwrap_or}
+use Rattle.std.specs.List.{slice_get}
 use Rattle.nodes.specs.Tree.{Tree, items, summary}
 use Rattle.nodes.specs.Rules.{Rules}
 
@@ -23,6 +24,10 @@ first_in rules p base (x ∷ xs) = cond (rules.hits p x) (Some base) (first_in r
 abbrev pub last_in : {P E S : Type 0} → Rules P E S → P → ℕ → List E → Option ℕ
 last_in rules p base [] = None
 last_in rules p base (x ∷ xs) = option_or (last_in rules (rules.past p x) (suc base) xs) (cond (rules.hits p x) (Some base) None)
+
+-- how many items stand before the first hit, all where there is none, and the item that stands there
+abbrev pub rank_in : {P E S : Type 0} → Rules P E S → P → List E → ℕ × Option E
+rank_in rules p xs = let place = unwrap_or (first_in rules p 0 xs) (length xs) in (place, slice_get xs place)
 
 -- on every part of the list, what the probe tells from a summary is what it finds item by item
 pub record Lawful {P E S : Type 0} (empty : S) (whole : S → E → S → S) (rules : Rules P E S) (p : P) (list : List E) : Type 0 where

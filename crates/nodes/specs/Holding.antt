@@ -1,6 +1,6 @@
 -- When a slice of nodes holds a tree.
 use Rattle.std.specs.List.{slice_get}
-use Rattle.std.specs.Prelude.{◌≡◌, ℕ, zero, suc, ◌+◌, Bool, true, false, List, Some, None, Option}
+use Rattle.std.specs.Prelude.{◌≡◌, ℕ, zero, suc, ◌+◌, ◌^◌, ◌<◌, Bool, true, false, List, Some, None, Option}
 use Rattle.nodes.specs.declared.node.Node.{Node}
 use Rattle.nodes.specs.Tree.{Tree, leaf, branch, size, summary}
 
@@ -32,6 +32,7 @@ pub record Opens {E S : Type 0} (nodes : List (Node E S)) (link : Option ℕ) (s
   pub same_right : rights ≡ nodes
   pub at_right : right ≡ node.right
   pub adds : size_at nodes link ≡ suc (size_at lefts left + size_at rights right)
+  pub fits : size_at nodes link < 2 ^ 64
 
 -- a branch at a slot, if it has a node, with the parts that its links lead to
 abbrev pub grown : {E S : Type 0} → ℕ → Option (Node E S) → (Option ℕ → Tree E) → Tree E

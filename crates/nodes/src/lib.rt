@@ -16,4 +16,3 @@ pub use element::Element;
 pub use node::Node;
 pub use part::{Fork, Part};
 pub use probe::Probe;
-pub use search::{first_hit, last_hit};

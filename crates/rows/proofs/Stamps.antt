@@ -1,10 +1,11 @@
 -- The probe for a stamp is lawful, and by rising stamps its first hit is where the stamp belongs.
-use Rattle.std.proofs.Common.{◌≡◌, ℕ, suc, ◌+◌, ◌≤◌, max, Bool, true, false, cond, ◌||◌, ltb, leb, List, [], ◌∷◌, map, length, Some, None, Option, sym, refl, ap, ◌∙◌, ap₂, zero-add, arith}
+use Rattle.std.proofs.Common.{◌≡◌, ℕ, suc, ◌+◌, ◌≤◌, max, Bool, true, false, cond, ◌||◌, ltb, leb, List, [], ◌∷◌, map, length, Some, None, Option, sym, refl, ap, ◌∙◌, zero-add, arith}
 use Rattle.std.proofs.lemmas.Bool.{and_parts, ltb-true, leb-true, leb-false, lt-ltb, le-ltb}
 use Rattle.std.proofs.lemmas.Bool.Decides.{nat_tests}
 use Rattle.std.specs.List.{slice_get}
+use Rattle.std.specs.Option.{unwrap_or}
 use Rattle.nodes.specs.Tree.{Tree, leaf, branch, items, summary}
-use Rattle.nodes.specs.Hits.{passed, any_hit, first_in, Lawful}
+use Rattle.nodes.specs.Hits.{passed, any_hit, first_in, rank_in, Lawful}
 use Rattle.nodes.proofs.Hunts.{any_append}
 use Rattle.journal.specs.Replay.{stamp_of, rising, by_stamp, dated}
 use Rattle.journal.specs.Rows.{entry_of, entries}
@@ -56,11 +57,6 @@ rising_rest n [] r = refl
 rising_rest n (m ∷ ms) r = (and_parts (ltb n m) (rising (m ∷ ms)) r).1
 
 module _ {P : Type 0} (s : ℕ) where
-  -- no hit: every stamp is lesser
-  none_found : (b : ℕ) (xs : List (RowItem P)) → first_in not_before (record { stamp = s }) b xs ≡ None → (earlier (rows_of xs) s ≡ length xs) × (dated s (entries (rows_of xs)) ≡ false)
-  none_found b [] e = (refl, refl)
-  none_found b (x ∷ xs) e = let ih = none_found (suc b) xs in (grind (arith, nat_tests), grind (arith, nat_tests))
-
   -- past a stamp that is not below, no stamp is lesser and none is this one
   none_later : (n : ℕ) (xs : List (RowItem P)) → s ≤ n → rising (n ∷ map stamp_of (entries (rows_of xs))) ≡ true → (earlier (rows_of xs) s ≡ 0) × (dated s (entries (rows_of xs)) ≡ false)
   none_later n [] le r = (refl, refl)
@@ -75,33 +71,32 @@ module _ {P : Type 0} (s : ℕ) where
   abbrev Stands : ℕ → ℕ → ℕ → List (RowItem P) → Type 0
   Stands k b j xs = (k ≡ b + j) × (dated s (entries (rows_of xs)) ≡ passes (dated_at s) (slice_get xs j))
 
-  -- a hit stands after the lesser stamps
-  some_found : (b k : ℕ) (xs : List (RowItem P)) → by_stamp (entries (rows_of xs)) ≡ true → first_in not_before (record { stamp = s }) b xs ≡ Some k → Stands k b (earlier (rows_of xs) s) xs
-  some_found b k [] r e = absurd (let z : ◌≡◌ {A = ℕ} 0 1 = cc in omega arith)
-  some_found b k (x ∷ xs) r e = go (leb s (stamp_of (entry_of x.row))) refl e (some_found (suc b) k xs (rising_rest (stamp_of (entry_of x.row)) (map stamp_of (entries (rows_of xs))) r))
+  -- the first hit stands after the lesser stamps, which are all where there is no hit
+  found_at : (b : ℕ) (xs : List (RowItem P)) → by_stamp (entries (rows_of xs)) ≡ true → Stands (unwrap_or (first_in not_before (record { stamp = s }) b xs) (b + length xs)) b (earlier (rows_of xs) s) xs
+  found_at b [] r = (refl, refl)
+  found_at b (x ∷ xs) r = go (leb s (stamp_of (entry_of x.row))) refl (found_at (suc b) xs (rising_rest (stamp_of (entry_of x.row)) (map stamp_of (entries (rows_of xs))) r))
     where
-      go : (h : Bool) → leb s (stamp_of (entry_of x.row)) ≡ h → cond h (Some b) (first_in not_before (record { stamp = s }) (suc b) xs) ≡ Some k
-          → (first_in not_before (record { stamp = s }) (suc b) xs ≡ Some k → Stands k (suc b) (earlier (rows_of xs) s) xs) → Stands k b (earlier (rows_of (x ∷ xs)) s) (x ∷ xs)
-      go true h f ih =
+      go : (h : Bool) → leb s (stamp_of (entry_of x.row)) ≡ h → Stands (unwrap_or (first_in not_before (record { stamp = s }) (suc b) xs) (suc b + length xs)) (suc b) (earlier (rows_of xs) s) xs
+          → Stands (unwrap_or (cond h (Some b) (first_in not_before (record { stamp = s }) (suc b) xs)) (b + suc (length xs))) b (earlier (rows_of (x ∷ xs)) s) (x ∷ xs)
+      go true h told =
           let m = stamp_of (entry_of x.row) in
           let none = none_later m xs (leb-true s m h) r in
           let at : earlier (rows_of (x ∷ xs)) s ≡ 0 = rw (le-ltb m s (leb-true s m h)) none.0 in
           let last = none.1 in
-          rw at ((let q : b ≡ k = cc in omega arith), grind arith)
-      go false h f ih =
+          rw at (omega arith, grind arith)
+      go false h told =
           let m = stamp_of (entry_of x.row) in
           let less = leb-false s m h in
           let at : earlier (rows_of (x ∷ xs)) s ≡ suc (earlier (rows_of xs) s) = rw (lt-ltb m s less) (omega arith) in
-          let told = ih f in
+          let all : b + suc (length xs) ≡ suc b + length xs = omega arith in
           let later = told.1 in
-          rw at (omega (arith, told.0), grind (arith, nat_tests))
+          rw (at, all) (omega (arith, told.0), grind (arith, nat_tests))
 
-  -- where the first hit stands, or that there is none, tells the place of the stamp and whether a row has it
-  pub place_none : (xs : List (RowItem P)) → None ≡ first_in not_before (record { stamp = s }) 0 xs → (length xs, false) ≡ place_and_whether (rows_of xs) s
-  place_none xs e = let none = none_found 0 xs (sym e) in ap₂ (λ (n : ℕ) (b : Bool). (n, b)) (sym none.0) (sym none.1)
-
-  pub place_some : (k : ℕ) (xs : List (RowItem P)) → by_stamp (entries (rows_of xs)) ≡ true → Some k ≡ first_in not_before (record { stamp = s }) 0 xs → (k, passes (dated_at s) (slice_get xs k)) ≡ place_and_whether (rows_of xs) s
-  place_some k xs r e =
-      let found = some_found 0 k xs r (sym e) in
-      let at : k ≡ earlier (rows_of xs) s = found.0 ∙ zero-add (earlier (rows_of xs) s) in
-      ap (λ (n : ℕ). (n, passes (dated_at s) (slice_get xs n))) at ∙ ap (λ (b : Bool). (earlier (rows_of xs) s, b)) (sym found.1)
+  -- what a search by this probe answers tells the place of the stamp and whether a row has it
+  pub ranked_place : (xs : List (RowItem P)) (answer : ℕ × Option (RowItem P)) (b : Bool) → by_stamp (entries (rows_of xs)) ≡ true → answer ≡ rank_in not_before (record { stamp = s }) xs → b ≡ passes (dated_at s) answer.1 → (answer.0, b) ≡ place_and_whether (rows_of xs) s
+  ranked_place xs answer b r is told =
+      let found = found_at 0 xs r in
+      let all : 0 + length xs ≡ length xs = zero-add (length xs) in
+      let at : (rank_in not_before (record { stamp = s }) xs).0 ≡ earlier (rows_of xs) s = ap (unwrap_or (first_in not_before (record { stamp = s }) 0 xs)) (sym all) ∙ found.0 ∙ zero-add (earlier (rows_of xs) s) in
+      let alike = ap (λ n. passes (dated_at s) (slice_get xs n)) at ∙ sym found.1 in
+      ap (λ (a : ℕ × Option (RowItem P)). (a.0, b)) is ∙ ap (λ n. (n, b)) at ∙ ap (λ (c : Bool). (earlier (rows_of xs) s, c)) (told ∙ ap (λ (a : ℕ × Option (RowItem P)). passes (dated_at s) a.1) is ∙ alike)

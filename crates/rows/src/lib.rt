@@ -3,6 +3,7 @@
 #![tactic(auto)]
 
 mod low_sum;
+mod merged;
 mod not_before;
 pub mod row_item;
 pub mod row_sum;

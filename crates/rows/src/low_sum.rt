@@ -62,10 +62,8 @@ impl<P: Priority> Probe<RowItem<P>, RowSum<P>> for LowSum {
     }
 
     fn hits_part(&self, sum: &RowSum<P>) -> bool {
-        match self.sum.tally(sum).least {
-            None => false,
-            Some(least) => self.passed.saturating_add(least) <= 0,
-        }
+        let least = self.sum.tally(sum).least;
+        least.is_some_and(|least| self.passed.saturating_add(least) <= 0)
     }
 
     fn pass_item(&self, item: &RowItem<P>) -> LowSum {

@@ -20,10 +20,7 @@ impl<P: Priority> Probe<RowItem<P>, RowSum<P>> for NotBefore {
     }
 
     fn hits_part(&self, sum: &RowSum<P>) -> bool {
-        match sum.latest {
-            None => false,
-            Some(latest) => self.stamp <= latest,
-        }
+        sum.latest.is_some_and(|latest| self.stamp <= latest)
     }
 
     fn pass_item(&self, _item: &RowItem<P>) -> NotBefore {

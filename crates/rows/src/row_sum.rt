@@ -2,8 +2,9 @@
 ghost use Rattle.std.specs.Prelude.{◌≡◌};
 ghost use Rattle.journal.specs.Replay.{stamp_of};
 ghost use Rattle.journal.specs.Rows.{entry_of};
-ghost use Rattle.rows.specs.Sums.{later, hinder, fronter, folder_marked, no_rows, sum_of_row, sum_then};
+ghost use Rattle.rows.specs.Sums.{folder_marked, no_rows, sum_of_row, sum_then};
 
+use crate::merged::merged;
 use crate::tally::Tally;
 use journal::folder::Folder;
 use journal::row::{Mark, Row};
@@ -27,39 +28,6 @@ pub fn stamp_of<P: Copy>(row: &Row<P>) -> u32
     match *row {
         Row::Arrival(folder, _) => folder.stamp,
         Row::Taking(stamp) => stamp,
-    }
-}
-
-// The greater of two stamps, where there are two.
-fn later_of(a: Option<u32>, b: Option<u32>) -> Option<u32>
-    ensures { result ≡ later a b }
-{
-    match (a, b) {
-        (None, b) => b,
-        (Some(x), None) => Some(x),
-        (Some(x), Some(y)) => Some(x.max(y)),
-    }
-}
-
-// The one behind of two folders, where there are two.
-fn hinder_of<P: Priority>(a: Option<Folder<P>>, b: Option<Folder<P>>) -> Option<Folder<P>>
-    ensures { result ≡ hinder P.Priority.not_behind a b }
-{
-    match (a, b) {
-        (None, b) => b,
-        (Some(f), None) => Some(f),
-        (Some(f), Some(g)) => Some(if f.is_ahead_of(&g) { g } else { f }),
-    }
-}
-
-// The one in front of two folders, where there are two.
-fn fronter_of<P: Priority>(a: Option<Folder<P>>, b: Option<Folder<P>>) -> Option<Folder<P>>
-    ensures { result ≡ fronter P.Priority.not_behind a b }
-{
-    match (a, b) {
-        (None, b) => b,
-        (Some(f), None) => Some(f),
-        (Some(f), Some(g)) => Some(if g.is_ahead_of(&f) { g } else { f }),
     }
 }
 
@@ -109,11 +77,15 @@ impl<P: Priority> RowSum<P> {
         ensures { result ≡ sum_then P.Priority.not_behind self.now after.now }
     {
         RowSum {
-            latest: later_of(self.latest, after.latest),
+            latest: merged(self.latest, after.latest, |x, y| x.max(y)),
             stock: self.stock.then(&after.stock),
             balance: self.balance.then(&after.balance),
-            hindmost: hinder_of(self.hindmost, after.hindmost),
-            foremost: fronter_of(self.foremost, after.foremost),
+            hindmost: merged(self.hindmost, after.hindmost, |f, g| {
+                if f.is_ahead_of(&g) { g } else { f }
+            }),
+            foremost: merged(self.foremost, after.foremost, |f, g| {
+                if g.is_ahead_of(&f) { g } else { f }
+            }),
         }
     }
 }

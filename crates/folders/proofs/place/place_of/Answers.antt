@@ -1,21 +1,15 @@
-use Rattle.std.proofs.Common.{sym, ◌∙◌}
-use Rattle.nodes.proofs.Held.{shaped}
+use Rattle.std.proofs.Common.{◌≡◌, rules}
 use Rattle.nodes.specs.Tree.{items}
 use Rattle.journal.proofs.Ahead.{Lawful}
 use Rattle.folders.specs.declared.key.Key.{Key}
-use Rattle.folders.proofs.Searched.{key_lawful, found_none, found_at}
+use Rattle.folders.specs.Ranks.{key_at}
+use Rattle.folders.proofs.Searched.{key_lawful, ranked_finds}
 use Rattle.folders.proofs.place.place_of.Goals as goal
 
-pub returns-in-None : goal.returns-in-None
-returns-in-None g c = λ t h o.
+pub returns : goal.returns
+returns g c = λ t h o.
     let laws : Lawful g.P.Priority.not_behind = record { total = g.met.P.Priority.total; transitive = g.met.P.Priority.transitive } in
     let key : Key g.row.P.Denot = record { priority = c.args.priority.now; stamp = c.args.stamp } in
-    let search = key_lawful g.P.Priority.not_behind laws key (items t) o in
-    found_none g.P.Priority.not_behind laws key t _ (c.size_of.ensures t (shaped h)) (sym (c.first_hit.ensures t h search) ∙ c.in-None.is) o
-
-pub returns-in-Some : goal.returns-in-Some
-returns-in-Some g c = λ t h o.
-    let laws : Lawful g.P.Priority.not_behind = record { total = g.met.P.Priority.total; transitive = g.met.P.Priority.transitive } in
-    let key : Key g.row.P.Denot = record { priority = c.args.priority.now; stamp = c.args.stamp } in
-    let search = key_lawful g.P.Priority.not_behind laws key (items t) o in
-    found_at g.P.Priority.not_behind laws key t _ _ (sym (c.first_hit.ensures t h search) ∙ c.in-Some.is) (c.has_key_at.ensures t (shaped h)) o
+    let law = key_lawful g.P.Priority.not_behind laws key (items t) o in
+    let told : c.is_some_and.result ≡ key_at g.P.Priority.not_behind c.args.priority.now c.args.stamp c.rank-place.result.1 = search rules in
+    ranked_finds g.P.Priority.not_behind laws key t c.rank-place.result c.is_some_and.result (c.rank-place.ensures t h law) told o

@@ -7,5 +7,5 @@ use Rattle.rows.proofs.searches.low_at.Goals as goal
 pub returns : goal.returns
 returns g c t h few =
     let fits : SFits w32 c.tally.result.total = search rules in
-    let total = total_at g.P.Priority.not_behind c.args.sum c.args.place t c.sum_before-before.result few (c.sum_before-before.ensures t h) in
+    let total = total_at g.P.Priority.not_behind c.args.sum c.args.place t c.sum_before.result few (c.sum_before.ensures t h) in
     ap (λ z. le_z z (pos 0)) (to_z-of_z w32 c.tally.result.total fits ∙ ap (λ y. y.total) c.tally.ensures ∙ total)

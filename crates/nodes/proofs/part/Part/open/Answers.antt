@@ -1,3 +1,4 @@
+use Rattle.std.proofs.Common.{rules}
 use Rattle.nodes.proofs.Parts.{part_within, left_part, right_part, part_opens}
 use Rattle.nodes.proofs.part.Part.open.Goals as goal
 
@@ -11,4 +12,4 @@ pub invariant_of-result-2 : goal.invariant_of-result-2
 invariant_of-result-2 g c = record { shaped = right_part c.args.self.now.shaped c.in_ok-slot.was c.read_at-node.ensures }
 
 pub returns : goal.returns
-returns g c = part_opens c.args.self.now.shaped c.in_ok-slot.was c.read_at-node.ensures
+returns g c = part_opens c.args.self.now.shaped c.in_ok-slot.was c.read_at-node.ensures (search rules)
