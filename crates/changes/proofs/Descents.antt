@@ -1,6 +1,5 @@
 -- One step of going down with the way kept.
 use Rattle.std.proofs.Common.{◌≡◌, ℕ, suc, ◌+◌, ◌-◌, ◌<◌, ◌≤◌, Bool, false, List, [], ◌∷◌, ◌++◌, length, Some, None, Option, sym, refl, ap, ap₂, ◌∙◌, subst, arith, length-append}
-use native.Mathlib.Decide.{dec_lt}
 use Rattle.nodes.specs.declared.node.Node.{Node}
 use Rattle.nodes.specs.Tree.{Tree, leaf, items, size, height}
 use Rattle.std.specs.List.{slice_get}
@@ -134,10 +133,3 @@ module _ {E S : Type 0} {empty : S} {whole : S → E → S → S} {nodes ns : Li
         low = w.low;
         within = λ h. within (subst (In rest) (ap size walk_opened.is ∙ ap (λ k. suc (k + size walk_opened.after)) (sym walk_before)) (w.within h));
       }
-
-pub not_less : {a b : ℕ} → (a < b → ⊥) → b ≤ a
-not_less {a} {b} h = go (dec_lt a b)
-  where
-    go : Dec (a < b) → b ≤ a
-    go (yes l) = absurd (h l)
-    go (no n) = omega arith

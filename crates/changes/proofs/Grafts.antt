@@ -1,5 +1,5 @@
 -- One step of mending the way up.
-use Rattle.std.proofs.Common.{◌≡◌, ℕ, zero, suc, ◌+◌, ◌^◌, ◌<◌, Bool, false, cond, eqb, List, [], ◌∷◌, ◌++◌, length, take, Some, Option, sym, refl, ap, ap₂, ◌∙◌, subst, append_assoc, append-nil, arith}
+use Rattle.std.proofs.Common.{◌≡◌, ℕ, suc, ◌+◌, ◌^◌, ◌<◌, Bool, false, cond, eqb, List, [], ◌∷◌, ◌++◌, length, Some, Option, sym, refl, ap, ap₂, ◌∙◌, subst, append_assoc, append-nil, arith}
 use Rattle.std.proofs.lemmas.List.{nil_from_length}
 use Rattle.std.proofs.lemmas.Bool.Decides.{nat_tests}
 use Rattle.nodes.specs.declared.node.Node.{Node}
@@ -70,12 +70,6 @@ pub record Grafting {E S : Type 0} (must : Bool) (empty : S) (whole : S → E �
   pub around : Around must empty whole nodes root above hole
   pub held : Holds must empty whole nodes link (plug below part)
   pub kept : (i : ℕ) → uses i (plug frames part) ≡ 0 → slice_get nodes i ≡ slice_get entry i
-
-pub nth_take : {X : Type 0} (n : ℕ) (xs : List X) (i : ℕ) → i < n → slice_get (take n xs) i ≡ slice_get xs i
-nth_take zero xs i h = absurd (omega arith)
-nth_take (suc n) [] i h = refl
-nth_take (suc n) (x ∷ xs) zero h = refl
-nth_take (suc n) (x ∷ xs) (suc i) h = nth_take n xs i (omega arith)
 
 pub own : (k : ℕ) → ◌≡◌ {A = ℕ} (cond (eqb k k) 1 0) 1
 own k = grind (arith, nat_tests)

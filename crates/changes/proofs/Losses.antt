@@ -1,10 +1,10 @@
 -- What a tree and its list lose with a node that has at most one part.
 use Rattle.std.proofs.Common.{◌≡◌, ℕ, zero, suc, ◌+◌, ◌^◌, ◌<◌, ◌≤◌, max, Bool, false, cond, eqb, ◌⊎◌, List, [], ◌∷◌, ◌++◌, length, drop, set, Some, None, Option, sym, refl, ap, ◌∙◌, subst, inl, inr, append_assoc, append-nil, arith, take_at}
+use Rattle.std.proofs.lemmas.Option.{slice_get_within}
 use Rattle.nodes.specs.declared.node.Node.{Node}
 use Rattle.nodes.specs.Tree.{Tree, leaf, branch, items, size, height, uses, before_of}
 use Rattle.std.specs.List.{slice_get}
 use Rattle.nodes.specs.Holding.{size_at, Holds, nothing, part}
-use Rattle.nodes.proofs.Nths.{nth_within}
 use Rattle.nodes.proofs.Held.{size_is_length, held_leaf, held_within, stored_right}
 use Rattle.nodes.proofs.Fronts.{drop_past}
 use Rattle.changes.specs.declared.path.Side.TheVariants.{Left, Right}
@@ -178,7 +178,7 @@ module _ {E S : Type 0} {must : Bool} {empty : S} {whole : S → E → S → S} 
 
   pub never_past : size o.new ≤ place → ⊥
   never_past h =
-      let w = nth_within (items t) (suc place) out.item o.found in
+      let w = slice_get_within (items t) (suc place) out.item o.found in
       let l = size_is_length t in
       let z = o.sized in
       omega arith

@@ -1,20 +1,25 @@
 -- What another item at the end of a way makes of the tree and of its list.
-use Rattle.std.proofs.Common.{◌≡◌, ℕ, ◌+◌, ◌^◌, ◌<◌, Bool, cond, eqb, List, ◌∷◌, ◌++◌, length, set, Some, Option, sym, refl, ap, ◌∙◌, subst, append_assoc, arith, length-append}
+use Rattle.std.proofs.Common.{◌≡◌, ℕ, ◌+◌, ◌^◌, ◌<◌, ◌≤◌, Bool, cond, eqb, List, ◌∷◌, ◌++◌, length, set, Some, Option, sym, refl, ap, ◌∙◌, subst, append_assoc, arith, length-append}
 use lib.Seq.{set_at}
 use Rattle.nodes.specs.declared.node.Node.{Node}
-use Rattle.nodes.specs.Tree.{Tree, branch, items, size, uses}
+use Rattle.nodes.specs.Tree.{Tree, branch, items, size, height, uses}
 use Rattle.std.specs.List.{slice_get}
 use Rattle.nodes.specs.Holding.{Holds, size_at}
 use Rattle.nodes.proofs.Nths.{nth_here}
-use Rattle.nodes.proofs.Held.{Opened, opened, size_is_length, stored_right}
+use Rattle.nodes.proofs.Held.{Opened, opened, size_is_length, stored_right, unique}
 use Rattle.changes.specs.declared.path.Step.{Step}
 use Rattle.changes.specs.Frames.{Frame, plug, ahead, behind, frame_uses, Around, Apart}
 use Rattle.changes.specs.Placed.{Placed}
 use Rattle.changes.specs.Grafted.{Graft, Grafted}
+use Rattle.changes.specs.Replaced.{Sound}
 use Rattle.changes.specs.Ways.{Way}
 use Rattle.changes.proofs.Framing.{items_plug, uses_plug, size_plug, nth_set_other, around_set}
 use Rattle.changes.proofs.Grafts.{own, apart_from}
 use Rattle.changes.proofs.Growths.{size_swap}
+
+-- the slice holds one tree, so what is known of one reading is known of any
+pub sound_for : {E S : Type 0} {must : Bool} {empty : S} {whole : S → E → S → S} {nodes : List (Node E S)} {root : Option ℕ} {t : Tree E} → Sound empty whole nodes root → Holds must empty whole nodes root t → Apart t × (size t < 2 ^ 64) × (height t ≤ 32)
+sound_for r h = let same = unique r.holds h in (subst Apart same r.apart, subst (λ u. size u < 2 ^ 64) same r.fits, subst (λ u. height u ≤ 32) same r.low)
 
 module _ {E : Type 0} (fs : List (Frame E)) (slot place : ℕ) (old new : E) (before after : Tree E) (at : length (ahead fs) + size before ≡ place) where
   pub around_item : (x : E) → items (plug fs (branch slot x before after)) ≡ (ahead fs ++ items before) ++ (x ∷ (items after ++ behind fs))

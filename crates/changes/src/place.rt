@@ -26,14 +26,8 @@ pub fn place<E: Element>(
     requires fits { size_at nodes.old left + size_at nodes.old right + 1 < 2 ^ 64 }
     ensures { Placed E.empty E.whole nodes.old nodes.new slot item left right }
 {
-    let before = Part::<E> {
-        nodes: &*nodes,
-        link: left,
-    };
-    let after = Part::<E> {
-        nodes: &*nodes,
-        link: right,
-    };
+    let before = Part::<E> { nodes, link: left };
+    let after = Part::<E> { nodes, link: right };
     let size = before.size() + after.size() + 1;
     let sum = E::join(&before.sum(), &item, &after.sum());
     write_at(

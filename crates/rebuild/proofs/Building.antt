@@ -1,5 +1,5 @@
 -- What the loop that builds keeps.
-use Rattle.std.proofs.Common.{◌≡◌, ℕ, zero, suc, ◌+◌, ◌-◌, ◌*◌, ◌/◌, ◌^◌, ◌<◌, ◌≤◌, true, List, [], ◌∷◌, ◌++◌, length, reverse, take, Option, sym, refl, ap, ◌∙◌, subst, pow-suc, arith, take_all}
+use Rattle.std.proofs.Common.{◌≡◌, ℕ, zero, suc, ◌+◌, ◌-◌, ◌*◌, ◌/◌, ◌^◌, ◌<◌, ◌≤◌, true, List, [], ◌∷◌, ◌++◌, length, reverse, Option, sym, refl, ap, ◌∙◌, subst, pow-suc, arith, take_all}
 use Rattle.std.proofs.lemmas.List.{reverse-append, length-reverse}
 use Rattle.nodes.specs.declared.node.Node.{Node}
 use Rattle.nodes.specs.Tree.{leaf}
@@ -10,18 +10,18 @@ use Rattle.changes.specs.Chains.{count}
 use Rattle.rebuild.specs.declared.task.Task.{Task}
 use Rattle.rebuild.specs.declared.task.Task.TheVariants.{Build, Close}
 use Rattle.rebuild.specs.Shapes.{even_leaf, root_of, Labelled, Rebuilt, Closable, Closed}
-use Rattle.rebuild.proofs.Ranges.{nth_range, nth_there}
+use Rattle.rebuild.proofs.Ranges.{nth_there}
 use Rattle.rebuild.proofs.Plans.{Span, span, Built, AllBuilt, Plan, Roomy, plan_split}
 use Rattle.rebuild.proofs.Heights.{even_low}
 use Rattle.rebuild.proofs.Builds.{close_built, close_rest, close_kept, close_labelled}
 
 -- the tasks are on a stack, the last on top; what is built and what is still planned make up the whole
-pub record Building {E S : Type 0} (empty : S) (whole : S → E → S → S) (entry nodes : List (Node E S)) (order : List ℕ) (total : ℕ) (list : List E) (tasks : List Task) : Type 0 where
+pub record Building {E S : Type 0} (empty : S) (whole : S → E → S → S) (entry nodes : List (Node E S)) (order : List ℕ) (list : List E) (tasks : List Task) : Type 0 where
   pub spans : List Span
-  pub plan : Plan total (reverse tasks) spans
+  pub plan : Plan (length order) (reverse tasks) spans
   pub built : AllBuilt empty whole nodes order list spans
-  pub labelled : Labelled nodes (take total order) list
-  pub kept : (k : ℕ) → count k (take total order) ≡ 0 → slice_get nodes k ≡ slice_get entry k
+  pub labelled : Labelled nodes order list
+  pub kept : (k : ℕ) → count k order ≡ 0 → slice_get nodes k ≡ slice_get entry k
   pub roomy : Roomy (reverse tasks)
 
 -- half of a number below a power of two is below the next lower one
@@ -33,23 +33,23 @@ halved n (suc b) l some h w = let p = pow-suc 2 b in (b, omega arith, omega arit
 on_top : {tasks : List Task} (rest : List Task) (task : Task) {top : Task} → tasks ≡ rest ++ (task ∷ []) → task ≡ top → reverse tasks ≡ top ∷ reverse rest
 on_top rest task popped is = ap reverse popped ∙ reverse-append rest (task ∷ []) ∙ ap (λ t. t ∷ reverse rest) is
 
-module _ {E S : Type 0} {empty : S} {whole : S → E → S → S} {entry nodes : List (Node E S)} {order : List ℕ} {total : ℕ} {list : List E} {tasks : List Task} (b : Building empty whole entry nodes order total list tasks) (rest : List Task) (task : Task) (popped : tasks ≡ rest ++ (task ∷ [])) (lo n : ℕ) where
+module _ {E S : Type 0} {empty : S} {whole : S → E → S → S} {entry nodes : List (Node E S)} {order : List ℕ} {list : List E} {tasks : List Task} (b : Building empty whole entry nodes order list tasks) (rest : List Task) (task : Task) (popped : tasks ≡ rest ++ (task ∷ [])) (lo n : ℕ) where
   -- a range to build: it is within the whole, and there is room for three tasks more
   module _ (is : task ≡ Build lo n) where
-    build_plan : Plan total (Build lo n ∷ reverse rest) b.spans
-    build_plan = subst (λ ts. Plan total ts b.spans) (on_top rest task popped is) b.plan
+    build_plan : Plan (length order) (Build lo n ∷ reverse rest) b.spans
+    build_plan = subst (λ ts. Plan (length order) ts b.spans) (on_top rest task popped is) b.plan
 
     build_roomy : Roomy (Build lo n ∷ reverse rest)
     build_roomy = subst Roomy (on_top rest task popped is) b.roomy
 
-    pub build_within : lo + n ≤ total
+    pub build_within : lo + n ≤ length order
     build_within = build_plan.0
 
     pub build_room : length rest + 3 ≤ 32
     build_room = let r = build_roomy.0.2 in let l = length-reverse rest in omega arith
 
     -- an empty range is built at once
-    pub build_none : n ≡ 0 → Building empty whole entry nodes order total list rest
+    pub build_none : n ≡ 0 → Building empty whole entry nodes order list rest
     build_none z = record {
       spans = span lo n ∷ b.spans;
       plan = build_plan.2;
@@ -64,14 +64,14 @@ module _ {E S : Type 0} {empty : S} {whole : S → E → S → S} {entry nodes :
       split_top : reverse later ≡ Build lo (n / 2) ∷ (Build (lo + n / 2 + 1) (n - n / 2 - 1) ∷ (Close lo n ∷ reverse rest))
       split_top = ap reverse pushed ∙ reverse-append rest (Close lo n ∷ (Build (lo + n / 2 + 1) (n - n / 2 - 1) ∷ (Build lo (n / 2) ∷ [])))
 
-      pub build_split : Building empty whole entry nodes order total list later
+      pub build_split : Building empty whole entry nodes order list later
       build_split =
           let p = build_plan in
           let r = build_roomy in
           let h = halved n r.0.0 (length (reverse rest)) some r.0.1 r.0.2 in
           record {
             spans = b.spans;
-            plan = subst (λ ts. Plan total ts b.spans) (sym split_top) (plan_split total lo n (reverse rest) b.spans some p.0 p.1 p.2);
+            plan = subst (λ ts. Plan (length order) ts b.spans) (sym split_top) (plan_split (length order) lo n (reverse rest) b.spans some p.0 p.1 p.2);
             built = b.built;
             labelled = b.labelled;
             kept = b.kept;
@@ -79,19 +79,19 @@ module _ {E S : Type 0} {empty : S} {whole : S → E → S → S} {entry nodes :
           }
 
   module _ (is : task ≡ Close lo n) where
-    closing : Plan total (Close lo n ∷ reverse rest) b.spans
-    closing = subst (λ ts. Plan total ts b.spans) (on_top rest task popped is) b.plan
+    closing : Plan (length order) (Close lo n ∷ reverse rest) b.spans
+    closing = subst (λ ts. Plan (length order) ts b.spans) (on_top rest task popped is) b.plan
 
     halves : AllBuilt empty whole nodes order list (span (lo + n / 2 + 1) (n - n / 2 - 1) ∷ (span lo (n / 2) ∷ closing.0))
     halves = subst (AllBuilt empty whole nodes order list) closing.1 b.built
 
-    pub closable : length list ≡ total → total ≤ length order → total < 2 ^ 13 → Closable empty whole nodes order lo n
-    closable long room small =
+    pub closable : length list ≡ length order → length order < 2 ^ 13 → Closable empty whole nodes order lo n
+    closable long small =
         let within = closing.2 in
         let some = closing.3 in
         let slot = nth_there order (lo + n / 2) (omega arith) in
         let x = nth_there list (lo + n / 2) (omega arith) in
-        let node = b.labelled (lo + n / 2) slot.0 x.0 (nth_range order total (lo + n / 2) (omega arith) ∙ slot.1) x.1 in
+        let node = b.labelled (lo + n / 2) slot.0 x.0 slot.1 x.1 in
         let l = stored_right halves.1.0.holds ∙ halves.1.0.sized in
         let r = stored_right halves.0.holds ∙ halves.0.sized in
         record {
@@ -106,7 +106,7 @@ module _ {E S : Type 0} {empty : S} {whole : S → E → S → S} {entry nodes :
           fits = omega arith;
         }
 
-    pub build_close : {exit : List (Node E S)} → length list ≡ total → ((k : ℕ) → count k (take total order) ≤ 1) → Closed empty whole nodes exit order lo n → Building empty whole entry exit order total list rest
+    pub build_close : {exit : List (Node E S)} → length list ≡ length order → ((k : ℕ) → count k order ≤ 1) → Closed empty whole nodes exit order lo n → Building empty whole entry exit order list rest
     build_close long once c =
         let within = closing.2 in
         let some = closing.3 in
@@ -115,25 +115,25 @@ module _ {E S : Type 0} {empty : S} {whole : S → E → S → S} {entry nodes :
         record {
           spans = span lo n ∷ closing.0;
           plan = closing.5;
-          built = (close_built c list total long once b.labelled some within left right, close_rest c list total long once b.labelled some within closing.0 closing.4 halves.1.1);
-          labelled = close_labelled c list total long once b.labelled some within left right;
-          kept = λ k none. close_kept c list total long once b.labelled some within k none ∙ b.kept k none;
+          built = (close_built c list long once b.labelled some within left right, close_rest c list long once b.labelled some within closing.0 closing.4 halves.1.1);
+          labelled = close_labelled c list long once b.labelled some within left right;
+          kept = λ k none. close_kept c list long once b.labelled some within k none ∙ b.kept k none;
           roomy = subst Roomy (on_top rest task popped is) b.roomy;
         }
 
 module _ {E S : Type 0} {empty : S} {whole : S → E → S → S} {nodes : List (Node E S)} {order : List ℕ} {list : List E} {tasks : List Task} where
-  pub build_start : (total : ℕ) → total < 2 ^ 13 → Labelled nodes (take total order) list → tasks ≡ Build 0 total ∷ [] → Building empty whole nodes nodes order total list tasks
-  build_start total small labelled first = record {
+  pub build_start : length order < 2 ^ 13 → Labelled nodes order list → tasks ≡ Build 0 (length order) ∷ [] → Building empty whole nodes nodes order list tasks
+  build_start small labelled first = record {
     spans = [];
-    plan = subst (λ ts. Plan total (reverse ts) []) (sym first) (omega arith, tt, refl);
+    plan = subst (λ ts. Plan (length order) (reverse ts) []) (sym first) (omega arith, tt, refl);
     built = tt;
     labelled = labelled;
     kept = λ k none. refl;
     roomy = subst (λ ts. Roomy (reverse ts)) (sym first) ((13, small, omega arith), tt);
   }
 
-  pub build_end : {entry : List (Node E S)} {total : ℕ} {r : Option ℕ} → Building empty whole entry nodes order total list tasks → tasks ≡ [] → length list ≡ total → r ≡ root_of order 0 total → Rebuilt empty whole entry nodes (take total order) list r
-  build_end {total = total} b none long e =
-      let done : b.spans ≡ span 0 total ∷ [] = subst (λ ts. Plan total (reverse ts) b.spans) none b.plan in
+  pub build_end : {entry : List (Node E S)} {r : Option ℕ} → Building empty whole entry nodes order list tasks → tasks ≡ [] → length list ≡ length order → r ≡ root_of order 0 (length order) → Rebuilt empty whole entry nodes order list r
+  build_end b none long e =
+      let done : b.spans ≡ span 0 (length order) ∷ [] = subst (λ ts. Plan (length order) (reverse ts) b.spans) none b.plan in
       let t = (subst (AllBuilt empty whole nodes order list) done b.built).0 in
-      record { tree = t.tree; holds = subst (λ o. Holds true empty whole nodes o t.tree) (sym e) t.holds; even = t.even; low = even_low t.even; slots_are = t.slots_are; items_are = t.items_are ∙ take_all total list (omega arith); kept = b.kept }
+      record { tree = t.tree; holds = subst (λ o. Holds true empty whole nodes o t.tree) (sym e) t.holds; even = t.even; low = even_low t.even; slots_are = t.slots_are ∙ take_all (length order) order (omega arith); items_are = t.items_are ∙ take_all (length order) list (omega arith); kept = b.kept }

@@ -1,5 +1,5 @@
 -- Ranges of places, and the slots and items in them.
-use Rattle.std.proofs.Common.{◌≡◌, ℕ, zero, suc, ◌+◌, ◌/◌, ◌<◌, ◌≤◌, cond, eqb, List, [], ◌∷◌, ◌++◌, length, take, drop, Some, sym, refl, ap, ◌∙◌, arith}
+use Rattle.std.proofs.Common.{◌≡◌, ℕ, zero, suc, ◌+◌, ◌/◌, ◌<◌, ◌≤◌, cond, eqb, List, [], ◌∷◌, ◌++◌, length, take, drop, Some, refl, ap, ◌∙◌, arith}
 use Rattle.std.proofs.lemmas.Bool.Decides.{nat_tests}
 use Rattle.nodes.specs.Tree.{Tree, leaf, branch, slots, uses}
 use Rattle.std.specs.List.{slice_get}
@@ -33,12 +33,6 @@ module _ {X : Type 0} where
   range_split (y ∷ ys) (suc lo) b a x e =
       let f : slice_get ys (lo + b) ≡ Some x = ap (slice_get (y ∷ ys)) (let z : suc (lo + b) ≡ suc lo + b = omega arith in z) ∙ e in
       range_split ys lo b a x f ∙ ap (λ n. range lo b ys ++ (x ∷ take a (drop n (y ∷ ys)))) (let z : suc (suc (lo + b)) ≡ suc (suc lo + b) = omega arith in z)
-
-  pub nth_range : (xs : List X) (n j : ℕ) → j < n → slice_get (take n xs) j ≡ slice_get xs j
-  nth_range xs zero j h = absurd (omega arith)
-  nth_range [] (suc n) j h = refl
-  nth_range (x ∷ xs) (suc n) zero h = refl
-  nth_range (x ∷ xs) (suc n) (suc j) h = nth_range xs n j (omega arith)
 
 -- a slot that stands once stands in no range beside its place
 pub count_range : (k lo n : ℕ) (xs : List ℕ) → count k (range lo n xs) ≤ count k xs
@@ -84,13 +78,6 @@ uses_count k (branch slot item before after) =
     omega arith
 
 module _ {X : Type 0} where
-  pub range_take : (lo n total : ℕ) (xs : List X) → lo + n ≤ total → range lo n (take total xs) ≡ range lo n xs
-  range_take lo n zero xs h = ap (λ k. range k n []) (let e : lo ≡ 0 = omega arith in e) ∙ ap (λ k. take k []) (let e : n ≡ 0 = omega arith in e) ∙ sym (ap (λ k. range lo k xs) (let e : n ≡ 0 = omega arith in e))
-  range_take lo n (suc total) [] h = refl
-  range_take zero zero (suc total) (x ∷ xs) h = refl
-  range_take zero (suc n) (suc total) (x ∷ xs) h = ap (λ l. x ∷ l) (range_take zero n total xs (omega arith))
-  range_take (suc lo) n (suc total) (x ∷ xs) h = range_take lo n total xs (omega arith)
-
   pub nth_there : (xs : List X) (j : ℕ) → j < length xs → (x : X) × (slice_get xs j ≡ Some x)
   nth_there [] j h = absurd (omega arith)
   nth_there (x ∷ xs) zero h = (x, refl)

@@ -1,5 +1,5 @@
 -- The balanced shape, and what building it needs and leaves.
-use Rattle.std.specs.Prelude.{◌≡◌, ℕ, zero, suc, ◌+◌, ◌-◌, ◌*◌, ◌/◌, ◌^◌, ◌<◌, ◌≤◌, true, false, List, length, take, Some, None, Option}
+use Rattle.std.specs.Prelude.{◌≡◌, ℕ, zero, suc, ◌+◌, ◌-◌, ◌*◌, ◌/◌, ◌^◌, ◌<◌, ◌≤◌, true, false, List, length, Some, None, Option}
 use Rattle.nodes.specs.declared.node.Node.{Node}
 use Rattle.nodes.specs.Tree.{Tree, leaf, branch, items, slots, size, height}
 use Rattle.std.specs.List.{slice_get}
@@ -23,13 +23,12 @@ abbrev pub Labelled : {E S : Type 0} → List (Node E S) → List ℕ → List E
 Labelled {E} {S} nodes order list = (j slot : ℕ) (x : E) → slice_get order j ≡ Some slot → slice_get list j ≡ Some x → (node : Node E S) × (slice_get nodes slot ≡ Some node) × (node.item ≡ x)
 
 -- the slots are within the slice and none stands twice
-pub record Buildable {E S : Type 0} (nodes : List (Node E S)) (order : List ℕ) (n : ℕ) : Type 0 where
+pub record Buildable {E S : Type 0} (nodes : List (Node E S)) (order : List ℕ) : Type 0 where
   pub list : List E
-  pub long : length list ≡ n
-  pub labelled : Labelled nodes (take n order) list
-  pub within : n ≤ length order
-  pub small : n < 2 ^ 13
-  pub once : (k : ℕ) → count k (take n order) ≤ 1
+  pub long : length list ≡ length order
+  pub labelled : Labelled nodes order list
+  pub small : length order < 2 ^ 13
+  pub once : (k : ℕ) → count k order ≤ 1
 
 -- the slice holds the balanced tree over the slots, with their items in order, no higher than it must be; other slots are as they were
 pub record Rebuilt {E S : Type 0} (empty : S) (whole : S → E → S → S) (entry exit : List (Node E S)) (order : List ℕ) (list : List E) (root : Option ℕ) : Type 0 where

@@ -1,5 +1,5 @@
 // Building the balanced shape over slots in order.
-ghost use Rattle.std.specs.Prelude.{◌≡◌, ℕ, ◌+◌, ◌-◌, ◌/◌, ◌^◌, ◌<◌, ◌≤◌, List, [], ◌∷◌, ◌++◌, length, take};
+ghost use Rattle.std.specs.Prelude.{◌≡◌, ℕ, ◌+◌, ◌-◌, ◌/◌, ◌^◌, ◌<◌, ◌≤◌, List, [], ◌∷◌, ◌++◌, length};
 ghost use Rattle.rebuild.specs.Shapes.{root_of, Labelled, Buildable, Rebuilt, Closable, Closed};
 
 use crate::task::{Task, Tasks};
@@ -49,15 +49,14 @@ fn split(tasks: &mut Tasks, lo: usize, count: usize)
 }
 
 // Links the nodes in these slots to the balanced tree that has them in this order, and returns its root.
-pub fn build<E: Element>(
-    nodes: &mut [Node<E, E::Sum>],
-    order: &[usize],
-    count: usize,
-) -> Option<usize>
-    requires { Buildable nodes.old order.now count }
-    ensures { (list : List E) → length list ≡ count → Labelled nodes.old (take count order.now) list → Rebuilt E.empty E.whole nodes.old nodes.new (take count order.now) list result }
+pub fn build<E: Element>(nodes: &mut [Node<E, E::Sum>], order: &[usize]) -> Option<usize>
+    requires { Buildable nodes.old order.now }
+    ensures { (list : List E) → length list ≡ length order.now → Labelled nodes.old order.now list → Rebuilt E.empty E.whole nodes.old nodes.new order.now list result }
 {
-    let all = Task::Build { lo: 0, count };
+    let all = Task::Build {
+        lo: 0,
+        count: order.len(),
+    };
     let mut tasks = Tasks::new(all);
     tasks.push(all);
     while let Some(task) = tasks.pop() {
@@ -67,5 +66,5 @@ pub fn build<E: Element>(
             Task::Close { lo, count } => close::<E>(nodes, order, lo, count),
         }
     }
-    root_of(order, 0, count)
+    root_of(order, 0, order.len())
 }

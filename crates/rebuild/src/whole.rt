@@ -15,10 +15,7 @@ pub fn rebuild<E: Element>(nodes: &mut [Node<E, E::Sum>], root: Option<usize>) -
 {
     // Room for the slots of the largest tree.
     let mut order = [0; 4096];
-    let part = Part::<E> {
-        nodes: &*nodes,
-        link: root,
-    };
+    let part = Part::<E> { nodes, link: root };
     let count = in_order(&part, &mut order);
-    build::<E>(nodes, &order, count)
+    build::<E>(nodes, &order[..count])
 }

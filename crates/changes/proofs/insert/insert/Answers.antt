@@ -1,22 +1,11 @@
-use Rattle.std.proofs.Common.{◌+◌, ◌^◌, ◌<◌, None, sym, ap, ◌∙◌, subst, arith}
+use Rattle.std.proofs.Common.{◌+◌, ◌^◌, ◌<◌, None, sym, ap, ◌∙◌, subst}
 use Rattle.nodes.specs.Tree.{leaf, branch, items, size, uses}
-use Rattle.nodes.specs.Holding.{nothing}
-use Rattle.nodes.proofs.Held.{shaped, stored_right, unique}
+use Rattle.nodes.proofs.Held.{shaped, unique}
 use Rattle.changes.specs.Frames.{Apart}
 use Rattle.changes.specs.Inserted.{inserted}
 use Rattle.changes.proofs.Grafts.{graft_along}
 use Rattle.changes.proofs.Growths.{new_graft, new_kept, insert_lists}
 use Rattle.changes.proofs.insert.insert.Goals as goal
-
-pub to_gap-path-requires : goal.to_gap-path-requires
-to_gap-path-requires g c =
-    let r = c.requires in
-    let s = stored_right r.holds in
-    let p = r.place_within in
-    record { shallow = record { tree = r.tree; holds = r.holds; low = r.low }; within = omega arith }
-
-pub place-requires : goal.place-requires
-place-requires g c = record { within = c.requires.slot_within; left = record { tree = leaf; holds = nothing }; right = record { tree = leaf; holds = nothing }; fits = omega arith }
 
 pub graft-root-requires : goal.graft-root-requires
 graft-root-requires g c =

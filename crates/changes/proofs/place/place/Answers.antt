@@ -1,5 +1,5 @@
-use Rattle.std.proofs.Common.{◌≡◌, suc, ◌+◌, Some, sym, ap₂, ◌∙◌, subst, arith}
-use Rattle.nodes.specs.Tree.{branch, size}
+use Rattle.std.proofs.Common.{◌≡◌, suc, ◌+◌, ap₂, ◌∙◌, subst, arith}
+use Rattle.nodes.specs.Tree.{size}
 use Rattle.nodes.specs.Holding.{Holds}
 use Rattle.nodes.proofs.Held.{shaped}
 use Rattle.changes.proofs.Framing.{placed}
@@ -16,7 +16,7 @@ returns g c =
           let a = c.size.ensures.counts before (shaped l) in
           let b = c.size-2.ensures.counts after (shaped r) in
           let sized : c.size.result + c.size-2.result + 1 ≡ suc (size before + size after) = omega arith in
-          subst (λ ns. Holds must e.empty e.whole ns (Some c.args.slot) (branch c.args.slot c.args.item before after)) (sym c.write_at.ensures)
+          rw c.write_at.ensures
           (placed c.args.slot _ c.requires.within l r lu ru sized
           (λ m. c.join-sum.ensures
           ∙ ap₂ (λ s u. e.whole s c.args.item u) (c.sum.ensures before (subst (λ k. Holds k e.empty e.whole nodes c.args.left before) m l)) (c.sum-2.ensures after (subst (λ k. Holds k e.empty e.whole nodes c.args.right after) m r))));

@@ -1,13 +1,9 @@
-use Rattle.std.proofs.Common.{◌^◌, ◌<◌, ◌≤◌, refl, subst, arith}
+use Rattle.std.proofs.Common.{refl, arith}
 use Rattle.std.proofs.lemmas.Grind.{common_steps}
-use Rattle.nodes.specs.Tree.{size, height}
-use Rattle.nodes.proofs.Held.{held_within, shaped, unique}
-use Rattle.changes.specs.Frames.{Apart}
+use Rattle.nodes.proofs.Held.{held_within, shaped}
+use Rattle.changes.proofs.Swaps.{sound_for}
 use Rattle.changes.proofs.Losses.{takes_from}
 use Rattle.changes.proofs.remove.remove.Goals as goal
-
-pub to_item-requires : goal.to_item-requires
-to_item-requires g c = let r = c.requires in record { tree = r.tree; holds = r.holds; low = r.low }
 
 pub returns-in_err-found : goal.returns-in_err-found
 returns-in_err-found g c = λ must t h. rw c.from_residual.ensures (c.in_err-found.ensures t (shaped h), refl)
@@ -32,19 +28,12 @@ take_out-requires g c =
       one = grind (arith, common_steps);
     }
 
-pub remove_inner-requires : goal.remove_inner-requires
-remove_inner-requires g c =
-    let r = c.requires in
-    record { root = c.args.root; tree = r.tree; holds = r.holds; leads = c.in_ok-found.ensures r.tree r.holds; apart = r.apart; fits = r.fits; low = r.low; node = c.read_at-node.result; at = c.read_at-node.ensures; right = c.in-Some-Some.is-1 }
-
 pub returns-in-None-default : goal.returns-in-None-default
 returns-in-None-default g c = λ must t h.
-    let r = c.requires in
-    let same = unique r.holds h in
-    c.take_out.ensures must _ _ t h (c.in_ok-found.ensures t (shaped h)) (subst Apart same r.apart) (subst (λ u. size u < 2 ^ 64) same r.fits)
+    let s = sound_for c.requires h in
+    c.take_out.ensures must _ _ t h (c.in_ok-found.ensures t (shaped h)) s.0 s.1
 
 pub returns-in-Some-Some : goal.returns-in-Some-Some
 returns-in-Some-Some g c = λ must t h.
-    let r = c.requires in
-    let same = unique r.holds h in
-    takes_from must g.E.Element.empty g.E.Element.whole c.args.nodes.now c.remove_inner.new.nodes c.args.at t c.remove_inner.result (c.remove_inner.ensures must _ t h (c.in_ok-found.ensures t (shaped h)) (subst Apart same r.apart) (subst (λ u. size u < 2 ^ 64) same r.fits) (subst (λ u. height u ≤ 32) same r.low))
+    let s = sound_for c.requires h in
+    takes_from must g.E.Element.empty g.E.Element.whole c.args.nodes.now c.remove_inner.new.nodes c.args.at t c.remove_inner.result (c.remove_inner.ensures must _ t h (c.in_ok-found.ensures t (shaped h)) s.0 s.1 s.2)

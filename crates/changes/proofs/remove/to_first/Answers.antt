@@ -2,9 +2,6 @@ use Rattle.std.proofs.Common.{lit≤}
 use Rattle.changes.proofs.Losses.{firsts_within, firsts_room, firsts_less, firsts_left, firsts_bare}
 use Rattle.changes.proofs.remove.to_first.Goals as goal
 
-pub loop-i-init : goal.loop-i-init
-loop-i-init g c = λ root skipped all t h low w. record { part = t; way = w }
-
 pub read_at-requires : goal.read_at-requires
 read_at-requires g c = let p = c.requires in firsts_within (c.loop-i.invariant _ _ _ _ p.holds p.low p.way) p.holds
 

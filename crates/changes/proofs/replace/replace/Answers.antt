@@ -1,10 +1,10 @@
-use Rattle.std.proofs.Common.{◌≡◌, ◌+◌, ◌^◌, ◌<◌, length, set, Some, sym, refl, ap, ◌∙◌, subst}
+use Rattle.std.proofs.Common.{◌≡◌, ◌+◌, length, set, Some, sym, refl, ap, ◌∙◌}
 use Rattle.nodes.specs.Tree.{branch, items, size, before_of}
 use Rattle.std.specs.List.{slice_get}
-use Rattle.nodes.proofs.Held.{shaped, unique, held_within}
-use Rattle.changes.specs.Frames.{Apart, ahead}
+use Rattle.nodes.proofs.Held.{shaped, held_within}
+use Rattle.changes.specs.Frames.{ahead}
 use Rattle.changes.proofs.Grafts.{graft_along}
-use Rattle.changes.proofs.Swaps.{end, end_was, end_fits, swap_graft, swap_kept, swap_lists, swap_found}
+use Rattle.changes.proofs.Swaps.{end, end_was, end_fits, swap_graft, swap_kept, swap_lists, swap_found, sound_for}
 use Rattle.changes.proofs.replace.replace.Goals as goal
 
 pub to_item-requires : goal.to_item-requires
@@ -40,17 +40,14 @@ graft-root-requires g c =
 
 pub returns : goal.returns
 returns g c = λ must t h.
-    let r = c.requires in
-    let same = unique r.holds h in
-    let apart = subst Apart same r.apart in
-    let fits = subst (λ u. size u < 2 ^ 64) same r.fits in
+    let s = sound_for c.requires h in
     let l = c.in_ok-found.ensures t (shaped h) in
     let o = end l.way c.read_at-node.ensures h in
     let was = end_was l.way c.read_at-node.ensures h in
     let slot = c.in_ok-found.found.slot in
     let old = c.read_at-node.result.item in
     let place : length (ahead l.way.frames) + size o.before ≡ c.args.at = ap (λ n. n + size o.before) l.way.ahead_long ∙ ap (λ u. l.skipped + size (before_of u)) (sym o.is) ∙ l.at in
-    let grafted = c.graft-root.ensures must _ _ l.way.frames _ (graft_along c.as_slice.ensures.items (swap_graft l.way c.read_at-node.ensures h c.place.ensures apart fits)) in
+    let grafted = c.graft-root.ensures must _ _ l.way.frames _ (graft_along c.as_slice.ensures.items (swap_graft l.way c.read_at-node.ensures h c.place.ensures s.0 s.1)) in
     record {
       frames = l.way.frames;
       slot = slot;
@@ -60,5 +57,5 @@ returns g c = λ must t h.
       holds = grafted.holds;
       found = ap (λ u. slice_get (items u) c.args.at) (sym was) ∙ swap_found l.way.frames slot c.args.at old c.args.item o.before o.after place;
       lists = swap_lists l.way.frames slot c.args.at old c.args.item o.before o.after place ∙ ap (λ u. set (items u) c.args.at c.args.item) was;
-      kept = swap_kept l.way c.read_at-node.ensures h c.place.ensures apart fits grafted;
+      kept = swap_kept l.way c.read_at-node.ensures h c.place.ensures s.0 s.1 grafted;
     }

@@ -3,7 +3,7 @@ use Rattle.rebuild.proofs.Building.{build_within, build_room, build_none, build_
 use Rattle.rebuild.proofs.build.build.Goals as goal
 
 pub loop-task-init : goal.loop-task-init
-loop-task-init g c = λ list long labelled. build_start c.args.count c.requires.small labelled (rw c.push.ensures (rw c.new-tasks.ensures refl))
+loop-task-init g c = λ list long labelled. build_start c.requires.small labelled (rw c.push.ensures (rw c.new-tasks.ensures refl))
 
 pub loop-task-preserved-in-Build-default-eq0 : goal.loop-task-preserved-in-Build-default-eq0
 loop-task-preserved-in-Build-default-eq0 g c = λ list long labelled.
@@ -27,7 +27,7 @@ loop-task-preserved-in-Build g c = λ list long labelled.
 pub close-requires : goal.close-requires
 close-requires g c =
     let p = c.requires in
-    closable (c.loop-task.invariant p.list p.long p.labelled) _ _ c.in-Some.ensures _ _ c.in-Close.is p.long p.within p.small
+    closable (c.loop-task.invariant p.list p.long p.labelled) _ _ c.in-Some.ensures _ _ c.in-Close.is p.long p.small
 
 pub loop-task-preserved : goal.loop-task-preserved
 loop-task-preserved g c = λ list long labelled.
