@@ -6,6 +6,7 @@ use orders::priority::PriorityFault;
 use orders::weight::Weight;
 use slips::fault::SlipFault;
 use slips::list::EntryList;
+use std::fmt;
 use words::{cut, number, take_word};
 
 // The slips that were good, and the caps of the runs asked for.
@@ -16,95 +17,88 @@ pub(crate) struct Slips {
 }
 
 // What a line asks for.
-enum Line {
-    Nothing,
+enum Request {
     Slip(Entry<Weight>),
     Run(u64),
-    Refused(PriorityFault),
+}
+
+// Why a line is bad.
+#[derive(Drop)]
+enum LineFault {
     Unreadable,
+    Refused(PriorityFault),
+}
+
+impl From<PriorityFault> for LineFault {
+    fn from(fault: PriorityFault) -> LineFault {
+        LineFault::Refused(fault)
+    }
+}
+
+impl fmt::Display for LineFault {
+    fn fmt<W: fmt::Write>(&self, f: &mut fmt::Formatter<W>) -> fmt::Result {
+        match self {
+            LineFault::Unreadable => write!(f, "unreadable"),
+            LineFault::Refused(fault) => write!(f, "{fault}"),
+        }
+    }
+}
+
+// A word that must be a number.
+fn read(word: &[u8]) -> Result<u64, LineFault> {
+    number(word).ok_or(LineFault::Unreadable)
 }
 
 // A number too large for 32 bits is read as the largest.
-fn number_32(word: &[u8]) -> Option<u32> {
-    match number(word) {
-        Some(n) => Some(n.min(u32::MAX as u64) as u32),
-        None => None,
-    }
+fn read_32(word: &[u8]) -> Result<u32, LineFault> {
+    Ok(u32::try_from(read(word)?).unwrap_or(u32::MAX))
 }
 
-fn arrival(rest: &[u8]) -> Line {
-    let (stamp, rest) = take_word(rest);
-    let (weight, rest) = take_word(rest);
-    let (folder, rest) = take_word(rest);
-    let (more, _) = take_word(rest);
-    let (Some(stamp), Some(weight), Some(number)) = (
-        number_32(stamp),
-        number(weight),
-        number_32(folder),
-    ) else {
-        return Line::Unreadable;
-    };
-    if !more.is_empty() {
-        return Line::Unreadable;
-    }
-    match Weight::new(weight) {
-        Ok(priority) => Line::Slip(Entry::Arrival(Folder {
-            stamp,
-            priority,
-            number,
-        })),
-        Err(fault) => Line::Refused(fault),
-    }
+fn arrival(stamp: &[u8], weight: &[u8], number: &[u8]) -> Result<Request, LineFault> {
+    let stamp = read_32(stamp)?;
+    let weight = read(weight)?;
+    let number = read_32(number)?;
+    Ok(Request::Slip(Entry::Arrival(Folder {
+        stamp,
+        priority: Weight::new(weight)?,
+        number,
+    })))
 }
 
-fn taking(rest: &[u8]) -> Line {
-    let (stamp, rest) = take_word(rest);
-    let (more, _) = take_word(rest);
-    match number_32(stamp) {
-        Some(stamp) if more.is_empty() => Line::Slip(Entry::Taking(stamp)),
-        _ => Line::Unreadable,
-    }
+// The first five words, empty where there are fewer.
+fn five_words(text: &[u8]) -> [&[u8]; 5] {
+    let (first, rest) = take_word(text);
+    let (second, rest) = take_word(rest);
+    let (third, rest) = take_word(rest);
+    let (fourth, rest) = take_word(rest);
+    let (fifth, _) = take_word(rest);
+    [first, second, third, fourth, fifth]
 }
 
-fn run(rest: &[u8]) -> Line {
-    let (cap, rest) = take_word(rest);
-    let (more, _) = take_word(rest);
-    match number(cap) {
-        Some(cap) if more.is_empty() => Line::Run(cap),
-        _ => Line::Unreadable,
-    }
-}
-
-fn read_line(line: &[u8]) -> Line {
+// What a line asks for, if anything.
+fn read_line(line: &[u8]) -> Result<Option<Request>, LineFault> {
     let (text, _) = cut(line, b'#');
-    let (command, rest) = take_word(text);
-    match command {
-        b"" => Line::Nothing,
-        b"arrival" => arrival(rest),
-        b"taking" => taking(rest),
-        b"run" => run(rest),
-        _ => Line::Unreadable,
-    }
+    let request = match five_words(text) {
+        [b"", ..] => return Ok(None),
+        [b"arrival", stamp, weight, number, b""] => arrival(stamp, weight, number)?,
+        [b"taking", stamp, b"", ..] => Request::Slip(Entry::Taking(read_32(stamp)?)),
+        [b"run", cap, b"", ..] => Request::Run(read(cap)?),
+        _ => return Err(LineFault::Unreadable),
+    };
+    Ok(Some(request))
 }
 
 // Takes up what a line asks for; says so where the line is bad.
-fn take_up(rt: &HostRuntime, slips: &mut Slips, place: u64, line: Line) -> anyhow::Result<()> {
-    match line {
-        Line::Nothing => {}
-        Line::Run(cap) => slips.caps.push(cap)?,
-        Line::Unreadable => println!(rt; "line {place}: unreadable")?,
-        Line::Refused(fault) => {
-            let number = fault.number();
-            println!(rt; "line {place}: refused {number}")?
-        }
-        Line::Slip(entry) => match slips.list.enter(entry) {
+fn take_up(rt: &HostRuntime, slips: &mut Slips, place: u64, line: &[u8]) -> anyhow::Result<()> {
+    match read_line(line) {
+        Ok(None) => {}
+        Ok(Some(Request::Run(cap))) => slips.caps.push(cap)?,
+        Ok(Some(Request::Slip(entry))) => match slips.list.enter(entry) {
             Ok(()) => {}
-            Err(SlipFault::Refused(why)) => {
-                let number = why.number();
-                println!(rt; "line {place}: refused {number}")?
-            }
+            Err(SlipFault::Refused(why)) => println!(rt; "line {place}: {why}")?,
             Err(SlipFault::Memory) => return Err(anyhow!("out of memory")),
         },
+        Err(fault) => println!(rt; "line {place}: {fault}")?,
     }
     Ok(())
 }
@@ -116,14 +110,8 @@ pub(crate) fn read_slips(rt: &HostRuntime, text: &[u8]) -> anyhow::Result<Slips>
         list: EntryList::new(heap),
         caps: Vec::new(heap),
     };
-    let mut rest = text;
-    for place in 1..u64::MAX {
-        if rest.is_empty() {
-            break;
-        }
-        let (line, next) = cut(rest, b'\n');
-        take_up(rt, &mut slips, place, read_line(line))?;
-        rest = next;
+    for (place, line) in (1..).zip(text.split(|b| *b == b'\n')) {
+        take_up(rt, &mut slips, place, line)?;
     }
     Ok(slips)
 }
