@@ -17,11 +17,8 @@ impl<P: Priority> Folder<P> {
     pub fn is_ahead_of(&self, other: &Folder<P>) -> bool
         ensures { result ≡ ahead P.Priority.not_behind self.now other.now }
     {
-        if !other.priority.not_behind(&self.priority) {
-            true
-        } else {
-            self.priority.not_behind(&other.priority) && self.stamp < other.stamp
-        }
+        !other.priority.not_behind(&self.priority)
+            || (self.priority.not_behind(&other.priority) && self.stamp < other.stamp)
     }
 
     // Whether this is the folder of a priority and stamp: its priority ties, its stamp is the same.

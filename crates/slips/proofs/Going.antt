@@ -1,6 +1,5 @@
 -- A replay under way: the rack so far, with the entries still to come, leaves what the whole journal leaves.
-use Rattle.std.proofs.Common.{◌≡◌, ℕ, ◌+◌, ◌<◌, ◌≤◌, Bool, true, false, ◌&&◌, List, [], ◌∷◌, length, get_or, drop, Some, None, Ok, Err, Result, sym, refl, ap, ◌∙◌, subst, arith, drop_of_length-le}
-use Rattle.std.specs.List.{slice_get}
+use Rattle.std.proofs.Common.{◌≡◌, ℕ, ◌+◌, ◌<◌, ◌≤◌, Bool, true, false, ◌&&◌, List, [], ◌∷◌, length, get_or, drop, None, Err, Result, sym, refl, ap, ◌∙◌, subst, arith}
 use Rattle.std.proofs.lemmas.Bool.Decides.{nat_tests}
 use Rattle.orders.specs.Refusal.{Told, told, refused, reply}
 use Rattle.journal.specs.declared.entry.Entry.{Entry}
@@ -8,16 +7,13 @@ use Rattle.journal.specs.declared.entry.Entry.TheVariants.{Arrival, Taking}
 use Rattle.journal.specs.declared.folder.Folder.{Folder}
 use Rattle.journal.specs.declared.refusal.ListRefusal.{ListRefusal}
 use Rattle.journal.specs.Folders.{in_order, placed, rest}
-use Rattle.journal.specs.Racks.{holds, put_rule, remove_rule}
-use Rattle.journal.specs.Refusals.{accepted, later, list_refusal}
+use Rattle.journal.specs.Racks.{holds, put_rule}
+use Rattle.journal.specs.Refusals.{accepted, list_refusal}
 use Rattle.journal.specs.Replay.{stamp_of, by_stamp, rack_after, replay, fetches, first_empty, waiting, first_unserved}
 use Rattle.journal.proofs.Ahead.{Lawful}
 use Rattle.journal.proofs.Placed.{length_placed, placed_ordered}
-use Rattle.slips.specs.Into.{before_stamp, Ready, Steps, replay_reply, replayed}
+use Rattle.slips.specs.Into.{before_stamp, Ready}
 use Rattle.slips.proofs.Dated.{drop_next, first_above, rising_parts}
-
-some_same : {A : Type 0} (a b : A) → Some a ≡ Some b → a ≡ b
-some_same a b e = cc
 
 -- what a rack replies where the rule accepts
 pub not_refused : {A : Type 0} (rule : Told A) (a : A) (r : Result (Unit {0}) ListRefusal) (e : ListRefusal) → reply list_refusal r ≡ accepted rule → rule ≡ told a → r ≡ Err e → ⊥
@@ -68,66 +64,13 @@ module _ {P : Type 0} (nb : P → P → Bool) where
     pub leaves : replay nb fs (drop i es) ≡ waiting nb es
     pub serves : first_empty (fetches nb fs (drop i es)) ≡ first_unserved nb es
 
-  pub going_start : (es : List (Entry P)) → by_stamp es ≡ true → Going es [] 0
-  going_start [] h = record { ordered = refl; few = omega arith; earlier = refl; rising = refl; leaves = refl; serves = refl }
-  going_start (e ∷ es) h = record { ordered = refl; few = omega arith; earlier = refl; rising = h; leaves = refl; serves = refl }
-
-  pub going_ready : (capacity : ℕ) (es : List (Entry P)) (fs : List (Folder P)) (i : ℕ) (e : Entry P) → Going es fs i → i < length es → length es ≤ capacity → e ≡ get_or es i e → Ready nb capacity fs e
-  going_ready capacity es fs i e go lt fits is =
-      record { ordered = go.ordered; room = omega (arith, go.few); earlier = sym (ap (fresh fs) (drop_next es i e lt is)) ∙ go.earlier }
-
   -- the first entry's fetch, and the rest's
   fetches_first : (fs : List (Folder P)) (e : Entry P) (es : List (Entry P)) → first_empty (fetches nb fs (e ∷ [])) ≡ None → first_empty (fetches nb fs (e ∷ es)) ≡ first_empty (fetches nb (rack_after nb fs e) es)
   fetches_first fs (Arrival f) es h = refl
   fetches_first [] (Taking s) es h = let z : ◌≡◌ {A = ℕ} 0 1 = cc in absurd (let o : ⊥ = omega arith in o)
   fetches_first (f ∷ fs) (Taking s) es h = refl
 
-  fetches_none : (fs : List (Folder P)) (e : Entry P) (es : List (Entry P)) (s : ℕ) → first_empty (fetches nb fs (e ∷ [])) ≡ Some s → first_empty (fetches nb fs (e ∷ es)) ≡ Some s
-  fetches_none fs (Arrival f) es s h = let z : ◌≡◌ {A = ℕ} 0 1 = cc in absurd (let o : ⊥ = omega arith in o)
-  fetches_none [] (Taking t) es s h = h
-  fetches_none (f ∷ fs) (Taking t) es s h = let z : ◌≡◌ {A = ℕ} 0 1 = cc in absurd (let o : ⊥ = omega arith in o)
-
-  pub going_stop : (es : List (Entry P)) (fs : List (Folder P)) (i : ℕ) (e : Entry P) (s : ℕ) → Going es fs i → i < length es → e ≡ get_or es i e → first_empty (fetches nb fs (e ∷ [])) ≡ Some s → first_unserved nb es ≡ Some s
-  going_stop es fs i e s go lt is h = sym go.serves ∙ ap (λ ds. first_empty (fetches nb fs ds)) (drop_next es i e lt is) ∙ fetches_none fs e (drop (i + 1) es) s h
-
-  pub going_end : (es : List (Entry P)) (fs : List (Folder P)) (i : ℕ) → Going es fs i → length es ≤ i → (fs ≡ waiting nb es) × (first_unserved nb es ≡ None)
-  going_end es fs i go le =
-      let done : drop i es ≡ [] = drop_of_length-le es {i = i} le in
-      (sym (ap (replay nb fs) done) ∙ go.leaves, sym go.serves ∙ ap (λ ds. first_empty (fetches nb fs ds)) done)
-
-  pub arrival_steps : (capacity : ℕ) (fs : List (Folder P)) (f : Folder P) (after : List (Folder P)) → Ready nb capacity fs (Arrival f)
-      → after ≡ later (put_rule nb capacity fs f) fs → Steps nb fs (Arrival f) after (Ok tt)
-  arrival_steps capacity fs f after r is = (is ∙ ap (λ rule. later rule fs) (ready_put capacity fs f r), refl)
-
-  pub unserved : (fs : List (Folder P)) (s : ℕ) → slice_get fs 0 ≡ None → first_empty (fetches nb fs (Taking s ∷ [])) ≡ Some s
-  unserved [] s h = refl
-  unserved (f ∷ fs) s h = let z : ◌≡◌ {A = ℕ} 0 1 = cc in absurd (let o : ⊥ = omega arith in o)
-
-  -- the reply and the rack at the end, where a taking found no folder
-  pub stopped : (capacity : ℕ) (es : List (Entry P)) (before : List (Folder P)) (s : ℕ) → length es ≤ capacity → first_unserved nb es ≡ Some s
-      → (refused 7 (s ∷ []) ≡ replay_reply nb capacity es) × ([] ≡ replayed nb capacity es before)
-  stopped capacity es before s fits u = (grind (arith, nat_tests), grind (arith, nat_tests))
-
-  -- and where all were served
-  pub finished : (capacity : ℕ) (es : List (Entry P)) (before : List (Folder P)) → length es ≤ capacity → first_unserved nb es ≡ None
-      → (told tt ≡ replay_reply nb capacity es) × (waiting nb es ≡ replayed nb capacity es before)
-  finished capacity es before fits u = (grind (arith, nat_tests), grind (arith, nat_tests))
-
 module _ {P : Type 0} (nb : P → P → Bool) (L : Lawful nb) where
-  pub ready_front : (f : Folder P) (fs : List (Folder P)) → remove_rule nb (f ∷ fs) f.priority f.stamp ≡ told fs
-  ready_front f fs = let r = L.total f.priority f.priority in grind (arith, nat_tests)
-
-  pub taking_rule : (fs : List (Folder P)) (f : Folder P) → slice_get fs 0 ≡ Some f → remove_rule nb fs f.priority f.stamp ≡ told (rest fs)
-  taking_rule [] f h = let z : ◌≡◌ {A = ℕ} 0 1 = cc in absurd (let o : ⊥ = omega arith in o)
-  taking_rule (g ∷ gs) f h =
-      let same : g ≡ f = some_same g f h in
-      ap (λ (d : Folder P). remove_rule nb (g ∷ gs) d.priority d.stamp) (sym same) ∙ ready_front g gs
-
-  pub taking_steps : (fs : List (Folder P)) (f : Folder P) (s : ℕ) (after : List (Folder P)) → slice_get fs 0 ≡ Some f
-      → after ≡ later (remove_rule nb fs f.priority f.stamp) fs → Steps nb fs (Taking s) after (Ok tt)
-  taking_steps [] f s after h is = let z : ◌≡◌ {A = ℕ} 0 1 = cc in absurd (let o : ⊥ = omega arith in o)
-  taking_steps (g ∷ gs) f s after h is = (is ∙ ap (λ rule. later rule (g ∷ gs)) (taking_rule (g ∷ gs) f h), refl)
-
   ordered_after : (fs : List (Folder P)) (e : Entry P) → in_order nb fs ≡ true → before_stamp (stamp_of e) fs ≡ true → in_order nb (rack_after nb fs e) ≡ true
   ordered_after fs (Arrival f) o b = placed_ordered nb L f fs o (earlier_not_held nb f.priority f.stamp fs b)
   ordered_after [] (Taking s) o b = refl

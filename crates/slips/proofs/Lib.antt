@@ -1,3 +1,2 @@
 pub mod Dated
-pub mod Fronts
 pub mod Going
