@@ -1,12 +1,11 @@
 // Reading by place: the walk goes down one path and keeps no stack.
-ghost use Rattle.std.specs.Prelude.{◌≡◌, ◌<◌, true, false, length, Some};
+ghost use Rattle.std.specs.Prelude.{◌≡◌, ◌<◌, false, length, Some};
 ghost use Rattle.std.specs.List.{slice_get};
 ghost use Rattle.std.specs.Option.{option_map};
-ghost use Rattle.nodes.specs.Tree.{Tree, items, slots, size, summary};
-ghost use Rattle.nodes.specs.Holding.{Holds, Shaped};
+ghost use Rattle.nodes.specs.Tree.{Tree, items, slots};
+ghost use Rattle.nodes.specs.Holding.{Holds};
 
 use crate::element::Element;
-use crate::node::Node;
 use crate::part::{Fork, Part};
 
 pub fn read_at<T: Copy>(slice: &[T], i: usize) -> T
@@ -14,22 +13,6 @@ pub fn read_at<T: Copy>(slice: &[T], i: usize) -> T
     ensures { slice_get slice.now i ≡ Some result }
 {
     slice[i]
-}
-
-// How many nodes hang from a link.
-pub fn size_of<E: Element>(nodes: &[Node<E, E::Sum>], link: Option<usize>) -> usize
-    requires { Shaped E.empty E.whole nodes.now link }
-    ensures { (t : Tree E) → Holds false E.empty E.whole nodes.now link t → result ≡ size t }
-{
-    Part { nodes, link }.size()
-}
-
-// The summary of the items that hang from a link.
-pub fn sum_of<E: Element>(nodes: &[Node<E, E::Sum>], link: Option<usize>) -> E::Sum
-    requires { Shaped E.empty E.whole nodes.now link }
-    ensures { (t : Tree E) → Holds true E.empty E.whole nodes.now link t → result ≡ summary E.empty E.whole t }
-{
-    Part { nodes, link }.sum()
 }
 
 impl<'a, E: Element> Part<'a, E> {
