@@ -1,5 +1,6 @@
 -- The first items of a branch and those from a place on, and summaries of lists that grow at one end.
 use Rattle.std.proofs.Common.{◌≡◌, ℕ, suc, ◌+◌, ◌-◌, ◌<◌, ◌≤◌, Bool, true, false, List, [], ◌∷◌, ◌++◌, length, take, drop, Some, None, Option, sym, refl, ap, ◌∙◌, subst, append_assoc, arith, take_all}
+use Rattle.std.proofs.Math.Seq.{take-append-add, drop-append-add}
 use lib.Seq.{take-append-le, drop-append-le}
 use Rattle.std.proofs.lemmas.List.{drop_all}
 use Rattle.nodes.specs.declared.node.Node.{Node}
@@ -10,14 +11,13 @@ use Rattle.nodes.specs.Summaries.{Summarizes, Ends, Begins}
 use Rattle.nodes.proofs.Held.{Opened, size_is_length, held_leaf, shaped}
 use Rattle.nodes.proofs.Parts.{fork_opened, fork_left, fork_right}
 
-module _ {X : Type 0} where
-  pub take_past : (xs : List X) (x : X) (ys : List X) (k : ℕ) → take (suc (length xs + k)) (xs ++ (x ∷ ys)) ≡ xs ++ (x ∷ take k ys)
-  take_past [] x ys k = ap (λ j. take (suc j) (x ∷ ys)) (let e : 0 + k ≡ k = omega arith in e)
-  take_past (z ∷ zs) x ys k = ap (λ j. z ∷ take j (zs ++ (x ∷ ys))) (let e : suc (length zs) + k ≡ suc (length zs + k) = omega arith in e) ∙ ap (λ l. z ∷ l) (take_past zs x ys k)
+-- past a marked item, with one fewer for the item
+module _ {X : Type 0} (xs : List X) (x : X) (ys : List X) (k : ℕ) where
+  pub take_past : take (suc (length xs + k)) (xs ++ (x ∷ ys)) ≡ xs ++ (x ∷ take k ys)
+  take_past = ap (λ j. take j (xs ++ (x ∷ ys))) (let e : suc (length xs + k) ≡ length xs + suc k = omega arith in e) ∙ take-append-add xs (x ∷ ys) (suc k)
 
-  pub drop_past : (xs : List X) (x : X) (ys : List X) (k : ℕ) → drop (suc (length xs + k)) (xs ++ (x ∷ ys)) ≡ drop k ys
-  drop_past [] x ys k = ap (λ j. drop (suc j) (x ∷ ys)) (let e : 0 + k ≡ k = omega arith in e)
-  drop_past (z ∷ zs) x ys k = ap (λ j. drop j (zs ++ (x ∷ ys))) (let e : suc (length zs) + k ≡ suc (length zs + k) = omega arith in e) ∙ drop_past zs x ys k
+  pub drop_past : drop (suc (length xs + k)) (xs ++ (x ∷ ys)) ≡ drop k ys
+  drop_past = ap (λ j. drop j (xs ++ (x ∷ ys))) (let e : suc (length xs + k) ≡ length xs + suc k = omega arith in e) ∙ drop-append-add xs (x ∷ ys) (suc k)
 
 module _ {E S : Type 0} {must : Bool} {empty : S} {whole : S → E → S → S} {nodes : List (Node E S)} {slot : ℕ} {node : Node E S} {t : Tree E} (o : Opened must empty whole nodes slot node t) (n k : ℕ) (sized : n ≡ size o.before) where
   pub front_left : k ≤ n → take k (items t) ≡ take k (items o.before)

@@ -1,7 +1,7 @@
 -- What is known of a tree that a slice holds.
 use Rattle.std.proofs.Common.{◌≡◌, ℕ, zero, suc, ◌+◌, ◌<◌, ◌≤◌, Bool, true, false, List, ◌∷◌, length, Some, None, Option, sym, refl, ap, ◌∙◌, subst, arith, length-append}
 use Rattle.nodes.specs.declared.node.Node.{Node}
-use Rattle.nodes.specs.Tree.{Tree, leaf, branch, items, size, height, summary, before_of}
+use Rattle.nodes.specs.Tree.{Tree, leaf, branch, items, size, height, summary}
 use Rattle.std.specs.List.{slice_get}
 use Rattle.nodes.specs.Holding.{size_at, stored_size, tree_at, grown, Holds, nothing, part, Shaped}
 use Rattle.nodes.proofs.Nths.{nth_same, nth_within}
@@ -94,9 +94,6 @@ module _ {E S : Type 0} {empty : S} {whole : S → E → S → S} {nodes : List 
   pub left_shaped : (w : Inside empty whole nodes root link Kept) (i : ℕ) → link ≡ Some i → (node : Node E S) → slice_get nodes i ≡ Some node → Shaped empty whole nodes node.left
   left_shaped w i e node at = let o = inside_opened w i e node at in record { tree = o.before; holds = o.left }
 
-  pub right_shaped : (w : Inside empty whole nodes root link Kept) (i : ℕ) → link ≡ Some i → (node : Node E S) → slice_get nodes i ≡ Some node → Shaped empty whole nodes node.right
-  right_shaped w i e node at = let o = inside_opened w i e node at in record { tree = o.after; holds = o.right }
-
   -- both parts are smaller
   pub left_less : (w : Inside empty whole nodes root link Kept) (i : ℕ) → link ≡ Some i → (node : Node E S) → slice_get nodes i ≡ Some node → size_at nodes node.left < size_at nodes link
   left_less w i e node at =
@@ -111,25 +108,3 @@ module _ {E S : Type 0} {empty : S} {whole : S → E → S → S} {nodes : List 
       let here : size_at nodes link ≡ suc (size o.before + size o.after) = stored_right w.rest_held ∙ ap size o.is in
       let there = stored_right o.right in
       omega arith
-
--- what right summaries say of the parts of a node
-pub record Righted {E S : Type 0} (empty : S) (whole : S → E → S → S) (nodes : List (Node E S)) (node : Node E S) (before after : Tree E) : Type 0 where
-  pub left : Holds true empty whole nodes node.left before
-  pub right : Holds true empty whole nodes node.right after
-  pub summed : node.sum ≡ whole (summary empty whole before) node.item (summary empty whole after)
-
-abbrev after_of : {E : Type 0} → Tree E → Tree E
-after_of leaf = leaf
-after_of (branch slot item before after) = after
-
-module _ {E S : Type 0} {empty : S} {whole : S → E → S → S} {nodes : List (Node E S)} where
-  pub righted : {must : Bool} {link : Option ℕ} {i : ℕ} {node : Node E S} {t : Tree E} (o : Opened must empty whole nodes i node t) → Holds true empty whole nodes link t → link ≡ Some i → slice_get nodes i ≡ Some node → Righted empty whole nodes node o.before o.after
-  righted {i = i} {node = node} {t = t} o h e at =
-      let r = opened h i e node at in
-      let b : r.before ≡ o.before = ap before_of (sym r.is ∙ o.is) in
-      let a : r.after ≡ o.after = ap after_of (sym r.is ∙ o.is) in
-      record {
-        left = subst (Holds true empty whole nodes node.left) b r.left;
-        right = subst (Holds true empty whole nodes node.right) a r.right;
-        summed = r.summed refl ∙ ap (λ u. whole (summary empty whole u) node.item (summary empty whole r.after)) b ∙ ap (λ u. whole (summary empty whole o.before) node.item (summary empty whole u)) a;
-      }

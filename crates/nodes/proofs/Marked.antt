@@ -1,5 +1,5 @@
 -- What a search finds from a marked node on, and up to it.
-use Rattle.std.proofs.Common.{◌≡◌, ℕ, suc, ◌+◌, Bool, true, false, cond, List, [], ◌∷◌, Some, None, Option, sym, ap, ◌∙◌, subst}
+use Rattle.std.proofs.Common.{◌≡◌, ℕ, ◌+◌, Bool, true, false, cond, List, [], ◌∷◌, Some, None, Option, sym, ap, ◌∙◌, subst}
 use Rattle.std.specs.Option.{option_or}
 use Rattle.nodes.specs.declared.node.Node.{Node}
 use Rattle.nodes.specs.Tree.{Tree, items, size, summary, before_of, onward, up_to}

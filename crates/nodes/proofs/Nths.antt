@@ -1,17 +1,11 @@
 -- What stands at a place of a list.
-use Rattle.std.proofs.Common.{◌≡◌, ℕ, zero, suc, ◌+◌, ◌<◌, List, [], ◌∷◌, ◌++◌, length, get_or, Some, sym, refl, ap, ◌∙◌, arith}
+use Rattle.std.proofs.Common.{◌≡◌, ℕ, zero, suc, ◌+◌, ◌<◌, List, [], ◌∷◌, ◌++◌, length, Some, refl, ap, ◌∙◌, arith}
 use Rattle.std.specs.List.{slice_get}
+use Rattle.std.proofs.lemmas.Option.{slice_get_within}
 
 module _ {X : Type 0} where
-  pub nth_read : (xs : List X) (i : ℕ) (x : X) → i < length xs → x ≡ get_or xs i x → slice_get xs i ≡ Some x
-  nth_read [] i x h e = absurd (omega arith)
-  nth_read (y ∷ ys) zero x h e = ap Some (sym e)
-  nth_read (y ∷ ys) (suc i) x h e = nth_read ys i x (omega arith) e
-
   pub nth_within : (xs : List X) (i : ℕ) (x : X) → slice_get xs i ≡ Some x → i < length xs
-  nth_within [] i x e = let z : ◌≡◌ {A = ℕ} 0 1 = cc in absurd (omega arith)
-  nth_within (y ∷ ys) zero x e = omega arith
-  nth_within (y ∷ ys) (suc i) x e = let h = nth_within ys i x e in omega arith
+  nth_within = slice_get_within
 
   pub nth_same : (xs : List X) (i : ℕ) (x y : X) → slice_get xs i ≡ Some x → slice_get xs i ≡ Some y → x ≡ y
   nth_same xs i x y p q = cc

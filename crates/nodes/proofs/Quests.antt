@@ -1,7 +1,8 @@
 -- What a search over the whole tree keeps while it goes down, with the nearest mark behind it.
-use Rattle.std.proofs.Common.{◌≡◌, ℕ, suc, ◌+◌, ◌-◌, ◌^◌, ◌<◌, ◌≤◌, Bool, true, false, ◌||◌, List, [], ◌∷◌, ◌++◌, length, take, drop, Some, None, Option, sym, refl, ap, ◌∙◌, subst, append_assoc, arith, length-drop, take-append-drop, take_all}
+use Rattle.std.proofs.Common.{◌≡◌, ℕ, ◌+◌, ◌-◌, ◌^◌, ◌<◌, ◌≤◌, Bool, true, false, ◌||◌, List, [], ◌∷◌, ◌++◌, length, take, drop, Some, None, Option, sym, refl, ap, ◌∙◌, subst, append_assoc, arith, length-drop, take-append-drop, take_all}
 use Rattle.std.proofs.lemmas.List.{drop_all, length_push}
 use Rattle.std.specs.Option.{option_or}
+use Rattle.std.proofs.Math.Bool.{or-false}
 use Rattle.nodes.specs.declared.node.Node.{Node}
 use Rattle.nodes.specs.declared.element.Element.{Ghosts}
 use Rattle.nodes.specs.declared.mark.Mark.{Mark}
@@ -12,11 +13,7 @@ use Rattle.nodes.specs.Hits.{passed, any_hit, first_in, last_in, Lawful}
 use Rattle.nodes.proofs.Held.{Opened, held_leaf, shaped, size_is_length}
 use Rattle.nodes.proofs.Parts.{fork_opened, fork_left, fork_right}
 use Rattle.nodes.proofs.Fronts.{front_left, front_right, back_left, back_right}
-use Rattle.nodes.proofs.Hunts.{Judged, judged, here_is, later_is, told_left, passed_append, first_append, first_some, first_none, last_append, last_some, last_none, any_append, or_none, or_assoc}
-
-or_false : (b : Bool) → (b || false) ≡ b
-or_false true = refl
-or_false false = refl
+use Rattle.nodes.proofs.Hunts.{Judged, judged, here_is, later_is, told_left, passed_append, first_append, first_some, first_none, last_append, last_some, last_none, any_append, or_assoc}
 
 -- what the search would find at the mark
 abbrev pub Means : {P E S : Type 0} {e : Ghosts E S} → Rules P E S → (P → ℕ → Tree E → Option ℕ) → Option (Mark E P S e) → Option ℕ → Type 0
@@ -153,7 +150,7 @@ module _ {P E S : Type 0} {empty : S} {whole : S → E → S → S} {rules : Rul
       let B = items o.before in
       let x = node.item in
       any_append rules p B (x ∷ [])
-      ∙ ap (λ k. any_hit rules p B || k) (or_false (rules.hits (passed rules p B) x))
+      ∙ ap (λ k. any_hit rules p B || k) (or-false (rules.hits (passed rules p B) x))
       ∙ ap (λ z. any_hit rules p B || rules.hits z x) (sym (here_is j sum made))
       ∙ ap (λ k. k || rules.hits q x) (told_left j sum refl)
       ∙ sym said

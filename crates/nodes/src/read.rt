@@ -21,10 +21,7 @@ pub fn size_of<E: Element>(nodes: &[Node<E, E::Sum>], link: Option<usize>) -> us
     requires { Shaped E.empty E.whole nodes.now link }
     ensures { (t : Tree E) → Holds false E.empty E.whole nodes.now link t → result ≡ size t }
 {
-    match link {
-        None => 0,
-        Some(i) => read_at(nodes, i).size,
-    }
+    Part { nodes, link }.size()
 }
 
 // The summary of the items that hang from a link.
@@ -32,10 +29,7 @@ pub fn sum_of<E: Element>(nodes: &[Node<E, E::Sum>], link: Option<usize>) -> E::
     requires { Shaped E.empty E.whole nodes.now link }
     ensures { (t : Tree E) → Holds true E.empty E.whole nodes.now link t → result ≡ summary E.empty E.whole t }
 {
-    match link {
-        None => E::none(),
-        Some(i) => read_at(nodes, i).sum,
-    }
+    Part { nodes, link }.sum()
 }
 
 impl<'a, E: Element> Part<'a, E> {

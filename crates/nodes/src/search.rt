@@ -113,10 +113,7 @@ impl<'a, E: Element> Fork<'a, E> {
 fn hits_back<E, S, P: Probe<E, S>>(probe: &P, part: &S, here: &P, item: &E) -> bool
     ensures { result ≡ (P.rules.reaches probe.now part.now || P.rules.hits here.now item.now) }
 {
-    if probe.hits_part(part) {
-        return true;
-    }
-    here.hits_item(item)
+    probe.hits_part(part) || here.hits_item(item)
 }
 
 impl<'a, E: Element> Part<'a, E> {
