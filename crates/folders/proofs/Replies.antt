@@ -1,6 +1,7 @@
 -- What a rack over a list by place has done, in each case of what a search for the key told.
-use Rattle.std.proofs.Common.{◌≡◌, ℕ, zero, suc, ◌<◌, ◌≤◌, Bool, true, false, List, [], ◌∷◌, length, sym, refl, ap, ◌∙◌, arith, length-append, length-drop, length-take}
+use Rattle.std.proofs.Common.{◌≡◌, ℕ, ◌<◌, ◌≤◌, Bool, true, false, List, [], length, sym, refl, ap, ◌∙◌, arith, length-append, length-drop, length-take}
 use Rattle.std.specs.List.{insert, remove}
+use Rattle.std.proofs.lemmas.List.{map-append, take-map, drop-map}
 use Rattle.std.proofs.lemmas.Bool.Decides.{nat_tests}
 use Rattle.orders.specs.Refusal.{Told, told, refused}
 use Rattle.journal.specs.declared.folder.Folder.{Folder}
@@ -17,15 +18,10 @@ use Rattle.folders.proofs.Ranked.{placed_by_rank, taken_out_by_rank}
 module _ {P : Type 0} where
   -- an element put into a list, or taken out of it, is its folder put in or taken out
   pub folders_inserted : (rs : List (Racked P)) (place : ℕ) (r : Racked P) → folders_in (insert rs place r) ≡ insert (folders_in rs) place r.folder
-  folders_inserted rs zero r = refl
-  folders_inserted [] (suc place) r = refl
-  folders_inserted (x ∷ rs) (suc place) r = ap (λ l. x.folder ∷ l) (folders_inserted rs place r)
+  folders_inserted rs place r = simp (map-append, take-map, drop-map)
 
   pub folders_removed : (rs : List (Racked P)) (place : ℕ) → folders_in (remove rs place) ≡ remove (folders_in rs) place
-  folders_removed [] zero = refl
-  folders_removed [] (suc place) = refl
-  folders_removed (x ∷ rs) zero = refl
-  folders_removed (x ∷ rs) (suc place) = ap (λ l. x.folder ∷ l) (folders_removed rs place)
+  folders_removed rs place = simp (map-append, take-map, drop-map)
 
 module _ {P : Type 0} (nb : P → P → Bool) (capacity : ℕ) (rule : Told (List (Folder P))) (before : List (Folder P)) where
   -- a refusal, by the rule where the folders are in order

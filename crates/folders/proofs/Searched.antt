@@ -1,5 +1,5 @@
 -- A search for a key among folders in order: the last folder of a part tells whether it has a hit, and the first hit stands at the rank.
-use Rattle.std.proofs.Common.{◌≡◌, ℕ, suc, ◌+◌, Bool, true, false, cond, not, ◌||◌, List, [], ◌∷◌, ◌++◌, length, Some, None, Option, sym, refl, ap, ◌∙◌, zero-add, one-add, arith}
+use Rattle.std.proofs.Common.{◌≡◌, ℕ, suc, ◌+◌, Bool, true, false, cond, not, ◌||◌, List, [], ◌∷◌, ◌++◌, length, Some, None, Option, sym, refl, ap, ◌∙◌, one-add, arith}
 use Rattle.std.specs.List.{slice_get}
 use Rattle.std.specs.Option.{unwrap_or}
 use Rattle.std.proofs.lemmas.List.{map-append}
@@ -9,6 +9,7 @@ use Rattle.journal.specs.Racks.{holds}
 use Rattle.journal.proofs.Ahead.{Lawful as Order, ahead_transitive}
 use Rattle.nodes.specs.Tree.{Tree, leaf, branch, items, summary}
 use Rattle.nodes.specs.Hits.{passed, any_hit, first_in, rank_in, Lawful}
+use Rattle.nodes.proofs.Hunts.{ranked}
 use Rattle.folders.specs.declared.element.Racked.{Racked}
 use Rattle.folders.specs.declared.key.Key.{Key}
 use Rattle.folders.specs.Lasts.{folders_in, folders, last_of}
@@ -122,7 +123,6 @@ module _ {P : Type 0} (nb : P → P → Bool) (L : Order nb) (key : Key P) where
   -- what a search by this probe answers, with whether the item there has the key
   pub ranked_finds : (t : Tree (Racked P)) (answer : ℕ × Option (Racked P)) (b : Bool) → answer ≡ rank_in (key_rules nb) key (items t) → b ≡ key_at nb key.priority key.stamp answer.1 → Finds nb key.priority key.stamp (folders t) (answer.0, b)
   ranked_finds t answer b is told o =
-      let all : 0 + length (items t) ≡ length (items t) = omega arith in
-      let at : (rank_in (key_rules nb) key (items t)).0 ≡ ranks (items t) = ap (unwrap_or (first_in (key_rules nb) key 0 (items t))) (sym all) ∙ first_ranks 0 (items t) o ∙ zero-add (ranks (items t)) in
-      let alike = ap (λ k. key_at nb key.priority key.stamp (slice_get (items t) k)) at ∙ held_at_rank (items t) o in
-      ap (λ (a : ℕ × Option (Racked P)). (a.0, b)) is ∙ ap (λ n. (n, b)) at ∙ ap (λ (c : Bool). (ranks (items t), c)) (told ∙ ap (λ (a : ℕ × Option (Racked P)). key_at nb key.priority key.stamp a.1) is ∙ alike)
+      let at = ranked (key_rules nb) key (items t) (ranks (items t)) is (first_ranks 0 (items t) o) in
+      let alike = told ∙ ap (λ (a : ℕ × Option (Racked P)). key_at nb key.priority key.stamp a.1) at ∙ held_at_rank (items t) o in
+      ap (λ (a : ℕ × Option (Racked P)). (a.0, b)) at ∙ ap (λ (c : Bool). (ranks (items t), c)) alike

@@ -1,11 +1,12 @@
 -- What a search keeps while it goes down.
-use Rattle.std.proofs.Common.{◌≡◌, ℕ, suc, ◌+◌, ◌^◌, ◌<◌, Bool, true, false, cond, ◌||◌, List, [], ◌∷◌, ◌++◌, length, Some, None, Option, sym, refl, ap, ◌∙◌, subst, append_assoc, append-nil, arith}
-use Rattle.std.specs.Option.{option_or}
+use Rattle.std.proofs.Common.{◌≡◌, ℕ, suc, ◌+◌, ◌^◌, ◌<◌, Bool, true, false, cond, ◌||◌, List, [], ◌∷◌, ◌++◌, length, Some, None, Option, sym, refl, ap, ◌∙◌, subst, append_assoc, append-nil, zero-add, arith}
+use Rattle.std.specs.List.{slice_get}
+use Rattle.std.specs.Option.{option_or, unwrap_or}
 use Rattle.nodes.specs.declared.node.Node.{Node}
 use Rattle.nodes.specs.Tree.{Tree, items, size, summary}
 use Rattle.nodes.specs.Holding.{size_at, Holds, Opens}
 use Rattle.nodes.specs.Rules.{Rules}
-use Rattle.nodes.specs.Hits.{passed, any_hit, first_in, last_in, Lawful}
+use Rattle.nodes.specs.Hits.{passed, any_hit, first_in, last_in, rank_in, Lawful}
 use Rattle.nodes.proofs.Held.{Opened, held_leaf, shaped, size_is_length}
 use Rattle.nodes.proofs.Parts.{fork_opened, fork_left, fork_right}
 
@@ -255,3 +256,9 @@ module _ {P E S : Type 0} {empty : S} {whole : S → E → S → S} {rules : Rul
     last_to_left miss =
         let l = fork_left k.held f in
         hunted_left k f (last_left_way (fork_opened k.held f) (hunted_judged k f) place (summed _ l) (summed' _ (fork_right k.held f)) n (sized _ (shaped l)) made past said miss)
+
+-- what a rank by a probe tells, where as many items as `n` stand before the first hit, or are all that there are
+pub ranked : {P E S : Type 0} (rules : Rules P E S) (p : P) (xs : List E) {answer : ℕ × Option E} (n : ℕ) → answer ≡ rank_in rules p xs → unwrap_or (first_in rules p 0 xs) (0 + length xs) ≡ 0 + n → answer ≡ (n, slice_get xs n)
+ranked rules p xs n is before =
+    let at : unwrap_or (first_in rules p 0 xs) (length xs) ≡ n = ap (unwrap_or (first_in rules p 0 xs)) (sym (zero-add (length xs))) ∙ before ∙ zero-add n in
+    is ∙ ap (λ k. (k, slice_get xs k)) at

@@ -1,12 +1,12 @@
 -- The probe for a stamp is lawful, and by rising stamps its first hit is where the stamp belongs.
-use Rattle.std.proofs.Common.{◌≡◌, ℕ, suc, ◌+◌, ◌≤◌, max, Bool, true, false, cond, ◌||◌, ltb, leb, List, [], ◌∷◌, map, length, Some, None, Option, sym, refl, ap, ◌∙◌, zero-add, arith}
+use Rattle.std.proofs.Common.{◌≡◌, ℕ, suc, ◌+◌, ◌≤◌, max, Bool, true, false, cond, ◌||◌, ltb, leb, List, [], ◌∷◌, map, length, Some, None, Option, sym, refl, ap, ◌∙◌, arith}
 use Rattle.std.proofs.lemmas.Bool.{and_parts, ltb-true, leb-true, leb-false, lt-ltb, le-ltb}
 use Rattle.std.proofs.lemmas.Bool.Decides.{nat_tests}
 use Rattle.std.specs.List.{slice_get}
 use Rattle.std.specs.Option.{unwrap_or}
 use Rattle.nodes.specs.Tree.{Tree, leaf, branch, items, summary}
 use Rattle.nodes.specs.Hits.{passed, any_hit, first_in, rank_in, Lawful}
-use Rattle.nodes.proofs.Hunts.{any_append}
+use Rattle.nodes.proofs.Hunts.{any_append, ranked}
 use Rattle.journal.specs.Replay.{stamp_of, rising, by_stamp, dated}
 use Rattle.journal.specs.Rows.{entry_of, entries}
 use Rattle.journal.specs.Searches.{earlier, place_and_whether}
@@ -96,7 +96,6 @@ module _ {P : Type 0} (s : ℕ) where
   pub ranked_place : (xs : List (RowItem P)) (answer : ℕ × Option (RowItem P)) (b : Bool) → by_stamp (entries (rows_of xs)) ≡ true → answer ≡ rank_in not_before (record { stamp = s }) xs → b ≡ passes (dated_at s) answer.1 → (answer.0, b) ≡ place_and_whether (rows_of xs) s
   ranked_place xs answer b r is told =
       let found = found_at 0 xs r in
-      let all : 0 + length xs ≡ length xs = zero-add (length xs) in
-      let at : (rank_in not_before (record { stamp = s }) xs).0 ≡ earlier (rows_of xs) s = ap (unwrap_or (first_in not_before (record { stamp = s }) 0 xs)) (sym all) ∙ found.0 ∙ zero-add (earlier (rows_of xs) s) in
-      let alike = ap (λ n. passes (dated_at s) (slice_get xs n)) at ∙ sym found.1 in
-      ap (λ (a : ℕ × Option (RowItem P)). (a.0, b)) is ∙ ap (λ n. (n, b)) at ∙ ap (λ (c : Bool). (earlier (rows_of xs) s, c)) (told ∙ ap (λ (a : ℕ × Option (RowItem P)). passes (dated_at s) a.1) is ∙ alike)
+      let at = ranked not_before (record { stamp = s }) xs (earlier (rows_of xs) s) is found.0 in
+      let alike = told ∙ ap (λ (a : ℕ × Option (RowItem P)). passes (dated_at s) a.1) at ∙ sym found.1 in
+      ap (λ (a : ℕ × Option (RowItem P)). (a.0, b)) at ∙ ap (λ (c : Bool). (earlier (rows_of xs) s, c)) alike
