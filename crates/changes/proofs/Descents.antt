@@ -1,5 +1,6 @@
 -- One step of going down with the way kept.
 use Rattle.std.proofs.Common.{◌≡◌, ℕ, suc, ◌+◌, ◌-◌, ◌<◌, ◌≤◌, Bool, false, List, [], ◌∷◌, ◌++◌, length, Some, None, Option, sym, refl, ap, ap₂, ◌∙◌, subst, arith, length-append}
+use Rattle.std.proofs.Math.Nat.{lt_of_not-le}
 use Rattle.nodes.specs.declared.node.Node.{Node}
 use Rattle.nodes.specs.Tree.{Tree, leaf, items, size, height}
 use Rattle.std.specs.List.{slice_get}
@@ -133,3 +134,6 @@ module _ {E S : Type 0} {empty : S} {whole : S → E → S → S} {nodes ns : Li
         low = w.low;
         within = λ h. within (subst (In rest) (ap size walk_opened.is ∙ ap (λ k. suc (k + size walk_opened.after)) (sym walk_before)) (w.within h));
       }
+
+pub not_less : {a b : ℕ} → (a < b → ⊥) → b ≤ a
+not_less {a} {b} h = let past : b < suc a = lt_of_not-le h in omega arith

@@ -1,6 +1,6 @@
 -- What the loop that builds keeps.
 use Rattle.std.proofs.Common.{◌≡◌, ℕ, zero, suc, ◌+◌, ◌-◌, ◌*◌, ◌/◌, ◌^◌, ◌<◌, ◌≤◌, true, List, [], ◌∷◌, ◌++◌, length, reverse, Option, sym, refl, ap, ◌∙◌, subst, pow-suc, arith, take_all}
-use Rattle.std.proofs.lemmas.List.{reverse-append, length-reverse}
+use Rattle.std.proofs.lemmas.List.{reverse-append}
 use Rattle.nodes.specs.declared.node.Node.{Node}
 use Rattle.nodes.specs.Tree.{leaf}
 use Rattle.std.specs.List.{slice_get}
@@ -34,19 +34,13 @@ on_top : {tasks : List Task} (rest : List Task) (task : Task) {top : Task} → t
 on_top rest task popped is = ap reverse popped ∙ reverse-append rest (task ∷ []) ∙ ap (λ t. t ∷ reverse rest) is
 
 module _ {E S : Type 0} {empty : S} {whole : S → E → S → S} {entry nodes : List (Node E S)} {order : List ℕ} {list : List E} {tasks : List Task} (b : Building empty whole entry nodes order list tasks) (rest : List Task) (task : Task) (popped : tasks ≡ rest ++ (task ∷ [])) (lo n : ℕ) where
-  -- a range to build: it is within the whole, and there is room for three tasks more
+  -- a range to build
   module _ (is : task ≡ Build lo n) where
     build_plan : Plan (length order) (Build lo n ∷ reverse rest) b.spans
     build_plan = subst (λ ts. Plan (length order) ts b.spans) (on_top rest task popped is) b.plan
 
     build_roomy : Roomy (Build lo n ∷ reverse rest)
     build_roomy = subst Roomy (on_top rest task popped is) b.roomy
-
-    pub build_within : lo + n ≤ length order
-    build_within = build_plan.0
-
-    pub build_room : length rest + 3 ≤ 32
-    build_room = let r = build_roomy.0.2 in let l = length-reverse rest in omega arith
 
     -- an empty range is built at once
     pub build_none : n ≡ 0 → Building empty whole entry nodes order list rest
@@ -78,6 +72,7 @@ module _ {E S : Type 0} {empty : S} {whole : S → E → S → S} {entry nodes :
             roomy = subst Roomy (sym split_top) ((h.0, h.1, h.3), ((h.0, h.2, (let z = h.3 in omega arith)), r.1));
           }
 
+  -- a range whose halves are built
   module _ (is : task ≡ Close lo n) where
     closing : Plan (length order) (Close lo n ∷ reverse rest) b.spans
     closing = subst (λ ts. Plan (length order) ts b.spans) (on_top rest task popped is) b.plan

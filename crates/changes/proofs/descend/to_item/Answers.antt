@@ -1,8 +1,7 @@
-use Rattle.std.proofs.Common.{suc, ◌<◌, lit≤, ap, arith}
-use Rattle.std.proofs.Math.Nat.{lt_of_not-le}
+use Rattle.std.proofs.Common.{◌<◌, lit≤, ap, arith}
 use Rattle.nodes.specs.Tree.{size, before_of}
 use Rattle.nodes.proofs.Held.{unique}
-use Rattle.changes.proofs.Descents.{way_for_link, walk_start, walk_bare, walk_opened, walk_before, walk_room, walk_left, walk_right}
+use Rattle.changes.proofs.Descents.{way_for_link, walk_start, walk_bare, walk_opened, walk_before, walk_room, walk_left, walk_right, not_less}
 use Rattle.changes.proofs.descend.to_item.Goals as goal
 
 pub loop-fork-init : goal.loop-fork-init
@@ -36,5 +35,4 @@ returns g c = λ t h.
     let w = c.loop-fork.invariant in
     let none = ap size (walk_bare w c.in_default.ensures) in
     let same = ap size (unique w.all_held h) in
-    let past : size t < suc c.args.place = lt_of_not-le (λ small. let r = w.within (omega arith) in omega arith) in
-    omega arith
+    not_less (λ small. let r = w.within (omega arith) in omega arith)

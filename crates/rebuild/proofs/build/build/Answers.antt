@@ -1,5 +1,5 @@
 use Rattle.std.proofs.Common.{refl, arith}
-use Rattle.rebuild.proofs.Building.{build_within, build_room, build_none, build_split, closable, build_close, build_start, build_end}
+use Rattle.rebuild.proofs.Building.{build_none, build_split, closable, build_close, build_start, build_end}
 use Rattle.rebuild.proofs.build.build.Goals as goal
 
 pub loop-task-init : goal.loop-task-init
@@ -9,15 +9,6 @@ pub loop-task-preserved-in-Build-default-eq0 : goal.loop-task-preserved-in-Build
 loop-task-preserved-in-Build-default-eq0 g c = λ list long labelled.
     let none = rw c.in-Build-default-eq0.is at c.in-Build-default-eq0.count-test in
     build_none (c.loop-task.invariant list long labelled) _ _ c.in-Some.ensures _ _ c.in-Build-default-eq0.is none
-
-pub split-requires : goal.split-requires
-split-requires g c =
-    let p = c.requires in
-    let b = c.loop-task.invariant p.list p.long p.labelled in
-    let some = rw c.in-Build.is at c.in-Build.count-test in
-    let within = build_within b _ _ c.in-Some.ensures _ _ c.in-Build.is in
-    let small = p.small in
-    record { some = omega arith; fits = omega arith; room = build_room b _ _ c.in-Some.ensures _ _ c.in-Build.is }
 
 pub loop-task-preserved-in-Build : goal.loop-task-preserved-in-Build
 loop-task-preserved-in-Build g c = λ list long labelled.
