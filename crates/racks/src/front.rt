@@ -16,8 +16,8 @@ pub(crate) fn insert_at<T: Copy>(xs: &mut [T], n: usize, place: usize, x: T)
     requires room { n < length xs.old }
     ensures { take (n + 1) xs.new ≡ take place (take n xs.old) ++ x ∷ drop place (take n xs.old) }
 {
-    xs[n] = x;
-    xs[place..n + 1].rotate_right(1);
+    xs.copy_within(place..n, place + 1);
+    xs[place] = x;
 }
 
 // Removes the item at a place of the first n items, which then are one fewer.
@@ -26,5 +26,5 @@ pub(crate) fn remove_at<T: Copy>(xs: &mut [T], n: usize, place: usize)
     requires room { n ≤ length xs.old }
     ensures { take (n - 1) xs.new ≡ take place (take n xs.old) ++ drop (place + 1) (take n xs.old) }
 {
-    xs[place..n].rotate_left(1);
+    xs.copy_within(place + 1..n, place);
 }
