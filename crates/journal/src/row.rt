@@ -34,7 +34,7 @@ impl<P: Copy> Row<P> {
         ensures { result ≡ balance_step self.now }
     {
         match *self {
-            Row::Arrival(_, Mark::Fetched) => 1,
+            Row::Arrival(_, mark) if mark == Mark::Fetched => 1,
             Row::Arrival(_, _) => 0,
             Row::Taking(_) => -1,
         }
