@@ -3,7 +3,7 @@ use Rattle.std.proofs.Common.{◌≡◌, ℕ, zero, suc, ◌+◌, ◌<◌, ◌�
 use Rattle.nodes.specs.declared.node.Node.{Node}
 use Rattle.nodes.specs.Tree.{Tree, leaf, branch, items, size, height, summary}
 use Rattle.std.specs.List.{slice_get}
-use Rattle.nodes.specs.Holding.{size_at, stored_size, tree_at, grown, Holds, nothing, part, Shaped}
+use Rattle.nodes.specs.Holding.{size_at, stored_size, tree_at, grown, Holds, nothing, part}
 use Rattle.nodes.proofs.Nths.{nth_same, nth_within}
 
 pub size_is_length : {E : Type 0} (t : Tree E) → length (items t) ≡ size t
@@ -77,34 +77,3 @@ read_back {nodes = nodes} (suc depth) (part {slot} {before} {after} node at left
 pub height_size : {E : Type 0} (t : Tree E) → height t ≤ size t
 height_size leaf = omega arith
 height_size (branch slot item before after) = let b = height_size before in let a = height_size after in omega arith
-
--- where a walk down from a root has come to, with what it keeps of the whole and the part
-pub record Inside {E S : Type 0} (empty : S) (whole : S → E → S → S) (nodes : List (Node E S)) (root link : Option ℕ) (Kept : Tree E → Tree E → Type 0) : Type 0 where
-  pub all : Tree E
-  pub rest : Tree E
-  pub all_held : Holds false empty whole nodes root all
-  pub rest_held : Holds false empty whole nodes link rest
-  pub kept : Kept all rest
-
-module _ {E S : Type 0} {empty : S} {whole : S → E → S → S} {nodes : List (Node E S)} {root link : Option ℕ} {Kept : Tree E → Tree E → Type 0} where
-  -- what is known of the node that a walk has just read
-  pub inside_opened : (w : Inside empty whole nodes root link Kept) (i : ℕ) → link ≡ Some i → (node : Node E S) → slice_get nodes i ≡ Some node → Opened false empty whole nodes i node w.rest
-  inside_opened w i e node at = opened w.rest_held i e node at
-
-  pub left_shaped : (w : Inside empty whole nodes root link Kept) (i : ℕ) → link ≡ Some i → (node : Node E S) → slice_get nodes i ≡ Some node → Shaped empty whole nodes node.left
-  left_shaped w i e node at = let o = inside_opened w i e node at in record { tree = o.before; holds = o.left }
-
-  -- both parts are smaller
-  pub left_less : (w : Inside empty whole nodes root link Kept) (i : ℕ) → link ≡ Some i → (node : Node E S) → slice_get nodes i ≡ Some node → size_at nodes node.left < size_at nodes link
-  left_less w i e node at =
-      let o = inside_opened w i e node at in
-      let here : size_at nodes link ≡ suc (size o.before + size o.after) = stored_right w.rest_held ∙ ap size o.is in
-      let there = stored_right o.left in
-      omega arith
-
-  pub right_less : (w : Inside empty whole nodes root link Kept) (i : ℕ) → link ≡ Some i → (node : Node E S) → slice_get nodes i ≡ Some node → size_at nodes node.right < size_at nodes link
-  right_less w i e node at =
-      let o = inside_opened w i e node at in
-      let here : size_at nodes link ≡ suc (size o.before + size o.after) = stored_right w.rest_held ∙ ap size o.is in
-      let there = stored_right o.right in
-      omega arith

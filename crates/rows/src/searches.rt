@@ -78,6 +78,7 @@ pub fn last_low_balance<P: Priority>(part: &Part<RowItem<P>>, to: usize) -> Opti
 }
 
 // The place of a folder's row, by its stamp.
+// `?` and not `map`: of a closure that calls `find` the check infers nothing about its result.
 fn place_of<P: Priority>(part: &Part<RowItem<P>>, folder: Option<Folder<P>>) -> Option<usize>
     ensures { (t : Tree (RowItem P)) → Holds true no_rows (sum_whole P.Priority.not_behind) part.now.nodes.now part.now.link t → by_stamp (entries (rows_in t)) ≡ true → result ≡ option_map (λ f. earlier (rows_in t) f.stamp) folder }
 {
