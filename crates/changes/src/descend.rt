@@ -1,4 +1,5 @@
 // Going down to a place, with the way kept.
+// The slice stands beside the root, and in no `Part`: a way has room for a low tree alone, which a part does not keep.
 ghost use Rattle.std.specs.Prelude.{◌≡◌, ◌≤◌, false, None};
 ghost use Rattle.nodes.specs.Tree.{Tree, leaf, size};
 ghost use Rattle.nodes.specs.Holding.{Holds, size_at};

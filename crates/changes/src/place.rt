@@ -1,4 +1,5 @@
 // Writing one node over two parts.
+// The slice stands beside the root: a type that keeps a fact about a `&mut` slice cannot lend the slice on.
 ghost use Rattle.std.specs.Prelude.{◌≡◌, ◌+◌, ◌^◌, ◌<◌, length, slice_set};
 ghost use Rattle.nodes.specs.Holding.{Shaped, size_at};
 ghost use Rattle.changes.specs.Placed.{Placed};

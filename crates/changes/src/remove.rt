@@ -1,4 +1,5 @@
 // Taking the item at a place out of a tree.
+// The slice stands beside the root: a type that keeps a fact about a `&mut` slice cannot lend the slice on.
 ghost use Rattle.std.specs.Prelude.{◌≡◌, ℕ, ◌^◌, ◌<◌, ◌≤◌, Bool, false, ◌⊎◌, Some, None, Option};
 ghost use Rattle.nodes.specs.Tree.{Tree, size, height};
 ghost use Rattle.std.specs.List.{slice_get};

@@ -3,7 +3,8 @@ ghost use Rattle.std.specs.Prelude.{◌≡◌, ◌<◌, ◌≤◌, List, [], ◌
 
 use std::marker::Model;
 
-// The items beyond `len` are filler or popped, and mean nothing.
+// An array with a length and no `Vec`, since nothing here takes memory from the heap. The items beyond `len` are filler or
+// popped, and mean nothing.
 #[derive(Drop)]
 pub struct Stack<T, const N: usize> {
     items: [T; N],

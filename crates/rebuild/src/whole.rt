@@ -1,4 +1,5 @@
 // Rebuilding a part of a tree.
+// The slice stands beside the root: a type that keeps a fact about a `&mut` slice cannot lend the slice on.
 ghost use Rattle.std.specs.Prelude.{◌≡◌, Bool, false};
 ghost use Rattle.nodes.specs.Tree.{Tree, items, slots};
 ghost use Rattle.nodes.specs.Holding.{Holds};

@@ -9,7 +9,7 @@ use journal::row::Row;
 use nodes::Probe;
 use orders::priority::Priority;
 
-// The two running sums of rows.
+// The two running sums of rows. An enum and no closures: a probe is copied, and its rules are stated by these two cases.
 #[derive(Clone, Copy)]
 pub enum Sum {
     Stock,

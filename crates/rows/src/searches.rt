@@ -19,7 +19,7 @@ use journal::folder::Folder;
 use nodes::Part;
 use orders::priority::Priority;
 
-// How many rows have a lesser stamp, and whether one has this stamp.
+// How many rows have a lesser stamp, and whether one has this stamp. A pair, as the rules for a date line ask.
 pub fn find<P: Priority>(part: &Part<RowItem<P>>, stamp: u32) -> (usize, bool)
     ensures { (t : Tree (RowItem P)) → Holds true no_rows (sum_whole P.Priority.not_behind) part.now.nodes.now part.now.link t → by_stamp (entries (rows_in t)) ≡ true → result ≡ place_and_whether (rows_in t) stamp }
 {

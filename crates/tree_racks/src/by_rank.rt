@@ -1,4 +1,6 @@
 // Folders in a tree, foremost first: none, those told, one more, one fewer.
+// That the summaries are right is kept by the rack, not by `Tree`, which would then ask for `Element` itself: a type over
+// `Racked<P>` for any P cannot hold a type with that bound.
 ghost use Rattle.std.specs.Prelude.{◌≡◌, ◌≤◌, [], length};
 ghost use Rattle.std.specs.List.{slice_get};
 ghost use Rattle.orders.specs.Refusal.{reply};
@@ -51,7 +53,7 @@ pub(crate) fn folder_at<P: Priority>(
     Some(tree.at(place)?.folder)
 }
 
-// How many folders are ahead of a key, and whether the next one has it.
+// How many folders are ahead of a key, and whether the next one has it. A pair, as `place_of` answers.
 fn rank_in<P: Priority>(
     tree: &Tree<'_, Racked<P>, Option<Folder<P>>>,
     priority: &P,
