@@ -7,36 +7,34 @@ ghost use Rattle.journal.specs.Racks.{same_key, Changed, put_rule, remove_rule};
 ghost use Rattle.journal.specs.Refusals.{list_refusal};
 ghost use Rattle.racks.specs.Flat.{flat_capacity, flat_items};
 
-use crate::front::{insert_at, item_at, remove_at};
+use crate::front::{insert_at, remove_at};
 use journal::entry::MOST_ENTRIES;
 use journal::folder::Folder;
 use journal::rack::Rack;
 use journal::refusal::ListRefusal;
 use orders::priority::Priority;
 
-// Folders in order, foremost first, in the first slots.
+// Folders in order, foremost first, in the first slots: lent slots with a count, and no `Vec`, since a rack takes no memory from
+// the heap.
 #[derive(Drop)]
 pub struct FlatRack<'a, P> {
     slots: &'a mut [Folder<P>],
     count: usize,
 }
 
-// How many of the first n folders stand before the first that the folder is ahead of.
-fn place_for<P: Priority>(slots: &[Folder<P>], n: usize, folder: &Folder<P>) -> usize
-    requires { n ≤ length slots.now }
-    ensures value { result ≡ prefix_len (λ g. not (ahead P.Priority.not_behind folder.now g)) (take n slots.now) }
-    ensures bound { result ≤ n }
+// How many folders stand before the first that the folder is ahead of.
+fn place_for<P: Priority>(front: &[Folder<P>], folder: &Folder<P>) -> usize
+    ensures value { result ≡ prefix_len (λ g. not (ahead P.Priority.not_behind folder.now g)) front.now }
+    ensures bound { result ≤ length front.now }
 {
-    let front = &slots[..n];
     front.iter().take_while(|g| !folder.is_ahead_of(g)).count()
 }
 
-// The place of the first of a priority and stamp among the first n folders.
-fn place_of<P: Priority>(slots: &[Folder<P>], n: usize, priority: &P, stamp: u32) -> Option<usize>
-    requires { n ≤ length slots.now }
-    ensures { result ≡ position (λ g. same_key P.Priority.not_behind priority.now stamp g) (take n slots.now) }
+// The place of the first folder of a priority and stamp.
+fn place_of<P: Priority>(front: &[Folder<P>], priority: &P, stamp: u32) -> Option<usize>
+    ensures { result ≡ position (λ g. same_key P.Priority.not_behind priority.now stamp g) front.now }
 {
-    slots[..n].iter().position(|g| g.has_key(priority, stamp))
+    front.iter().position(|g| g.has_key(priority, stamp))
 }
 
 // Puts a folder among the first n, in its place.
@@ -50,13 +48,13 @@ fn put_in<P: Priority>(
     requires room { capacity ≤ length slots.old }
     ensures { Changed P.Priority.not_behind capacity (put_rule P.Priority.not_behind capacity (take n slots.old) folder.now) (take n slots.old) (take (if is_ok result then n + 1 else n) slots.new) (reply list_refusal result) }
 {
-    if place_of(slots, n, &folder.priority, folder.stamp).is_some() {
+    if place_of(&slots[..n], &folder.priority, folder.stamp).is_some() {
         return Err(ListRefusal::Present);
     }
     if n >= capacity {
         return Err(ListRefusal::Full);
     }
-    let place = place_for(slots, n, folder);
+    let place = place_for(&slots[..n], folder);
     insert_at(slots, n, place, *folder);
     Ok(())
 }
@@ -71,7 +69,7 @@ fn remove_from<P: Priority>(
     requires { n ≤ length slots.old }
     ensures { Changed P.Priority.not_behind n (remove_rule P.Priority.not_behind (take n slots.old) priority.now stamp) (take n slots.old) (take (if is_ok result then n - 1 else n) slots.new) (reply list_refusal result) }
 {
-    let Some(place) = place_of(slots, n, priority, stamp) else {
+    let Some(place) = place_of(&slots[..n], priority, stamp) else {
         return Err(ListRefusal::Absent);
     };
     remove_at(slots, n, place);
@@ -102,7 +100,7 @@ impl<'a, P: Priority> Rack<P> for FlatRack<'a, P> {
     }
 
     fn at(&self, place: usize) -> Option<Folder<P>> {
-        item_at(self.slots, self.count(), place)
+        self.slots[..self.count()].get(place).copied()
     }
 
     fn clear(&mut self) {

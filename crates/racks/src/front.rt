@@ -1,14 +1,5 @@
-// The first n items of a slice: one told, one more, one fewer.
+// The first n items of a slice: one more, one fewer.
 ghost use Rattle.std.specs.Prelude.{◌≡◌, ◌+◌, ◌-◌, ◌<◌, ◌≤◌, ◌∷◌, ◌++◌, length, take, drop};
-ghost use Rattle.std.specs.List.{slice_get};
-
-// The item at a place of the first n, or none.
-pub(crate) fn item_at<T: Copy>(xs: &[T], n: usize, place: usize) -> Option<T>
-    requires { n ≤ length xs.now }
-    ensures { result ≡ slice_get (take n xs.now) place }
-{
-    xs[..n].get(place).copied()
-}
 
 // Puts x at a place of the first n items, which then are one more.
 pub(crate) fn insert_at<T: Copy>(xs: &mut [T], n: usize, place: usize, x: T)
