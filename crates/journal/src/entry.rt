@@ -36,8 +36,7 @@ impl<P: Copy> Entry<P> {
     pub fn has_good_stamp(&self) -> bool
         ensures { result ≡ stamp_in_range (stamp_of self.now) }
     {
-        let stamp = self.stamp();
-        stamp >= 1 && stamp <= MOST_STAMP
+        (1..=MOST_STAMP).contains(&self.stamp())
     }
 
     // Whether the folder number of an arrival is one that a journal may hold.
@@ -45,7 +44,7 @@ impl<P: Copy> Entry<P> {
         ensures { result ≡ number_in_range self.now }
     {
         match *self {
-            Entry::Arrival(folder) => folder.number >= 1 && folder.number <= MOST_NUMBER,
+            Entry::Arrival(folder) => (1..=MOST_NUMBER).contains(&folder.number),
             Entry::Taking(_) => true,
         }
     }

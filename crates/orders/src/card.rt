@@ -10,7 +10,7 @@ use crate::bytes::{first_two, joined, last_eight, two_bytes};
 use crate::priority::{Priority, PriorityFault};
 use crate::written::Written;
 
-// The greatest deadline day.
+// The greatest deadline day, which is the greatest number of sixteen bits.
 pub const MOST_DAY: u32 = 65_535;
 
 // The greatest class.
@@ -29,14 +29,9 @@ impl Card {
     pub fn new(day: u32, class: u32, name: u64) -> Result<Card, PriorityFault>
         ensures { reply priority_refusal result ≡ card_made day class name }
     {
-        if day <= MOST_DAY && class <= MOST_CLASS as u32 {
-            Ok(Card {
-                day: day as u16,
-                class: class as u8,
-                name,
-            })
-        } else {
-            Err(PriorityFault::OutOfBounds)
+        match (u16::try_from(day), u8::try_from(class)) {
+            (Ok(day), Ok(class)) if class <= MOST_CLASS => Ok(Card { day, class, name }),
+            _ => Err(PriorityFault::OutOfBounds),
         }
     }
 
