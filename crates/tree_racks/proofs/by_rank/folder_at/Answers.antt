@@ -1,4 +1,4 @@
-use Rattle.std.proofs.Common.{ap, sym, ◌∙◌}
+use Rattle.std.proofs.Common.{ap, ◌∙◌}
 use Rattle.tree_racks.proofs.Ranks.{nth_racked}
 use Rattle.std.specs.Option.{option_map}
 use Rattle.tree_racks.proofs.by_rank.folder_at.Goals as goal
