@@ -6,6 +6,7 @@ ghost use Rattle.changes.specs.Placed.{Placed};
 
 use nodes::{Element, Node, Part};
 
+// Writing by index, as proofs cite it; the counterpart of `read_at`.
 pub fn write_at<T: Copy>(slice: &mut [T], i: usize, value: T)
     requires { i < length slice.old }
     ensures { slice.new ≡ slice_set slice.old i value }

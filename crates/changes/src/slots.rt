@@ -32,7 +32,7 @@ pub fn release<E: Copy, S: Copy>(
     Some(slot)
 }
 
-// Makes every slot free, whatever the memory held.
+// Makes every slot free, whatever the memory held. The loop goes over numbers, since it is the slots' numbers that are chained.
 pub fn release_all<E: Copy, S: Copy>(nodes: &mut [Node<E, S>]) -> Option<usize>
     ensures { AllFree nodes.new result }
 {

@@ -61,13 +61,10 @@ impl<'a, E: Element> Part<'a, E> {
         ensures stored { result ≡ size_at self.now.nodes.now self.now.link }
         ensures counts { (t : Tree E) → Holds false E.empty E.whole self.now.nodes.now self.now.link t → result ≡ size t }
     {
-        match self.link {
-            None => 0,
-            Some(slot) => read_at(self.nodes, slot).size,
-        }
+        self.open().map_or(0, |fork| fork.node.size)
     }
 
-    // The summary of its items.
+    // The summary of its items. A `match` and no `map_or_else`, which would hold two closures for the same two arms.
     pub fn sum(&self) -> E::Sum
         ensures { (t : Tree E) → Holds true E.empty E.whole self.now.nodes.now self.now.link t → result ≡ summary E.empty E.whole t }
     {

@@ -8,6 +8,7 @@ ghost use Rattle.nodes.specs.Holding.{Holds};
 use crate::element::Element;
 use crate::part::{Fork, Part};
 
+// Indexing, as proofs cite it. At a type whose size is open it leaves a goal about that size, which is met here once.
 pub fn read_at<T: Copy>(slice: &[T], i: usize) -> T
     requires { i < length slice.now }
     ensures { slice_get slice.now i ≡ Some result }

@@ -13,10 +13,7 @@ fn root_of(order: &[usize], lo: usize, count: usize) -> Option<usize>
     requires { lo + count ≤ length order.now }
     ensures { result ≡ root_of order.now lo count }
 {
-    if count == 0 {
-        return None;
-    }
-    Some(read_at(order, lo + count / 2))
+    order[lo..lo + count].get(count / 2).copied()
 }
 
 // Writes the root of a range whose halves are built.

@@ -21,9 +21,7 @@ fn step<P: Priority, R: Rack<P>>(rack: &mut R, entry: &Entry<P>) -> Result<(), R
             rack.put(&folder)?;
         }
         Entry::Taking(stamp) => {
-            let Some(front) = rack.at(0) else {
-                return Err(Refusal::NoFolder(stamp));
-            };
+            let front = rack.at(0).ok_or(Refusal::NoFolder(stamp))?;
             rack.remove(&front.priority, front.stamp)?;
         }
     }
