@@ -11,7 +11,7 @@ use crate::key::Key;
 use nodes::Part;
 use orders::priority::Priority;
 
-// How many folders are ahead of a key, and whether the next one has it. A pair, as a date line's `find` answers by the rules.
+// How many folders are ahead of a key, and whether the next one has it. A pair, as a date line's `find` answers.
 pub fn place_of<P: Priority>(part: &Part<Racked<P>>, priority: &P, stamp: u32) -> (usize, bool)
     ensures { (t : Tree (Racked P)) → Holds true None last_of part.now.nodes.now part.now.link t → Finds P.Priority.not_behind priority.now stamp (folders t) result }
 {

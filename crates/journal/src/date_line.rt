@@ -35,7 +35,7 @@ pub trait DateLine<P: Priority> {
         ensures bound { result ≤ capacity self.now }
         ensures rising { right self.now → by_stamp (entries (rows self.now)) ≡ true };
 
-    // How many rows have a lesser stamp, and whether one has this stamp.
+    // How many rows have a lesser stamp, and whether one has this stamp. A pair, by the rules, since both are asked at once.
     fn find(&self, stamp: u32) -> (usize, bool)
         ensures { right self.now → result ≡ place_and_whether (rows self.now) stamp };
 
