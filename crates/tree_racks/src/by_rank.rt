@@ -1,7 +1,7 @@
-// Folders in a tree, foremost first: none, those told, one more, one fewer.
+// Folders in a tree, foremost first: those told, one more, one fewer.
 // That the summaries are right is kept by the rack, not by `Tree`, which would then ask for `Element` itself: a type over
 // `Racked<P>` for any P cannot hold a type with that bound.
-ghost use Rattle.std.specs.Prelude.{◌≡◌, ◌≤◌, [], length};
+ghost use Rattle.std.specs.Prelude.{◌≡◌};
 ghost use Rattle.std.specs.List.{slice_get};
 ghost use Rattle.orders.specs.Refusal.{reply};
 ghost use Rattle.journal.specs.Racks.{put_rule, remove_rule};
@@ -13,35 +13,8 @@ ghost use Rattle.tree_racks.specs.Scapegoat.{racked, LastsRight, Moved};
 use folders::{Racked, place_of};
 use journal::folder::Folder;
 use journal::refusal::ListRefusal;
-use nodes::Node;
 use orders::priority::Priority;
 use trees::Tree;
-
-// An empty tree in any memory.
-pub(crate) fn no_folders<'a, P: Priority>(
-    nodes: &'a mut [Node<Racked<P>, Option<Folder<P>>>],
-) -> Tree<'a, Racked<P>, Option<Folder<P>>>
-    ensures empty { racked result.lent.nodes.now result.lent.links ≡ [] }
-    ensures right { LastsRight result.lent.nodes.now result.lent.links }
-    ensures capacity { capacity_of result.lent.nodes.now ≡ capacity_of nodes.old }
-{
-    Tree::new(nodes)
-}
-
-pub(crate) fn clear_all<P: Priority>(tree: &mut Tree<'_, Racked<P>, Option<Folder<P>>>)
-    ensures empty { racked tree.new.lent.nodes.now tree.new.lent.links ≡ [] }
-    ensures right { LastsRight tree.new.lent.nodes.now tree.new.lent.links }
-    ensures capacity { capacity_of tree.new.lent.nodes.now ≡ capacity_of tree.old.lent.nodes.now }
-{
-    tree.clear();
-}
-
-pub(crate) fn count_in<P: Priority>(tree: &Tree<'_, Racked<P>, Option<Folder<P>>>) -> usize
-    ensures value { result ≡ length (racked tree.now.lent.nodes.now tree.now.lent.links) }
-    ensures bound { result ≤ capacity_of tree.now.lent.nodes.now }
-{
-    tree.count()
-}
 
 // The folder at a place, or none.
 pub(crate) fn folder_at<P: Priority>(

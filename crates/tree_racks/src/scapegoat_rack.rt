@@ -3,7 +3,7 @@ ghost use Rattle.std.specs.Prelude.{◌≡◌, []};
 ghost use Rattle.trees.specs.Structures.{capacity_of};
 ghost use Rattle.tree_racks.specs.Scapegoat.{racked, LastsRight};
 
-use crate::by_rank::{clear_all, count_in, folder_at, no_folders, put_in, remove_from};
+use crate::by_rank::{folder_at, put_in, remove_from};
 use folders::Racked;
 use journal::folder::Folder;
 use journal::rack::Rack;
@@ -26,7 +26,7 @@ impl<'a, P: Priority> ScapegoatRack<'a, P> {
         ensures empty { racked result.tree.lent.nodes.now result.tree.lent.links ≡ [] }
     {
         ScapegoatRack {
-            tree: no_folders(nodes),
+            tree: Tree::new(nodes),
         }
     }
 }
@@ -41,7 +41,7 @@ impl<'a, P: Priority> Rack<P> for ScapegoatRack<'a, P> {
     }
 
     fn count(&self) -> usize {
-        count_in(&self.tree)
+        self.tree.count()
     }
 
     fn at(&self, place: usize) -> Option<Folder<P>> {
@@ -49,7 +49,7 @@ impl<'a, P: Priority> Rack<P> for ScapegoatRack<'a, P> {
     }
 
     fn clear(&mut self) {
-        clear_all(&mut self.tree);
+        self.tree.clear();
     }
 
     fn put(&mut self, folder: &Folder<P>) -> Result<(), ListRefusal> {

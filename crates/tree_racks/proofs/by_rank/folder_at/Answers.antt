@@ -3,8 +3,5 @@ use Rattle.tree_racks.proofs.Ranks.{nth_racked}
 use Rattle.std.specs.Option.{option_map}
 use Rattle.tree_racks.proofs.by_rank.folder_at.Goals as goal
 
-pub returns-in_err-at : goal.returns-in_err-at
-returns-in_err-at g c = c.from_residual.ensures ∙ ap (option_map (λ r. r.folder)) c.in_err-at.ensures ∙ nth_racked _ c.args.place
-
 pub returns : goal.returns
 returns g c = ap (option_map (λ r. r.folder)) c.in_ok-at.ensures ∙ nth_racked _ c.args.place
