@@ -1,5 +1,6 @@
 // The tree: lent nodes and the links into them.
-ghost use Rattle.std.specs.Prelude.{◌≡◌, ◌≤◌, false, length, take, drop};
+ghost use Rattle.std.specs.Prelude.{◌≡◌, ◌≤◌, None, Some, false, length, max, take, drop};
+ghost use Rattle.std.specs.Option.{option_or};
 ghost use Rattle.std.specs.List.{slice_get};
 ghost use Rattle.nodes.specs.Holding.{Holds};
 ghost use Rattle.nodes.specs.Hits.{passed, first_in, last_in, Lawful};
@@ -130,5 +131,128 @@ impl<'a, E: Element<Sum = S>, S: Copy> Tree<'a, E, S> {
         ensures { Replaces E.empty E.whole self.old.lent.nodes.now self.old.lent.links self.new.lent.nodes.now self.new.lent.links place item result }
     {
         self.lent.replace_at(place, item)
+    }
+}
+
+#[cfg(test)]
+mod tests {
+    use super::*;
+    use std::process::Abort;
+
+    // A number; a part keeps its greatest.
+    #[derive(Clone, Copy, PartialEq, Debug)]
+    struct Number(u8);
+
+    impl Element for Number {
+        type Sum = u8;
+
+        ghost empty = { 0 };
+
+        ghost whole = { λ a x b. max (max a x.0) b };
+
+        fn none() -> u8 {
+            0
+        }
+
+        fn join(before: &u8, item: &Number, after: &u8) -> u8 {
+            (*before).max(item.0).max(*after)
+        }
+    }
+
+    // A letter; a part keeps its first, if it has one.
+    #[derive(Clone, Copy, PartialEq, Debug)]
+    struct Letter(char);
+
+    impl Element for Letter {
+        type Sum = Option<char>;
+
+        ghost empty = { None };
+
+        ghost whole = { λ a x b. option_or a (Some x.0) };
+
+        fn none() -> Option<char> {
+            None
+        }
+
+        fn join(before: &Option<char>, item: &Letter, _after: &Option<char>) -> Option<char> {
+            before.or(Some(item.0))
+        }
+    }
+
+    #[derive(Clone, Copy)]
+    enum Call {
+        Insert(usize, u8),
+        Remove(usize),
+        Replace(usize, u8),
+    }
+
+    // Calls of a tree with four slots, in order; whether each is accepted, and the list after it.
+    const CALLS: [(Call, bool, &[u8]); 11] = [
+        (Call::Remove(0), false, &[]),
+        (Call::Insert(0, 5), true, &[5]),
+        (Call::Insert(1, 7), true, &[5, 7]),
+        (Call::Insert(1, 6), true, &[5, 6, 7]),
+        (Call::Insert(4, 9), false, &[5, 6, 7]),
+        (Call::Insert(0, 4), true, &[4, 5, 6, 7]),
+        (Call::Insert(0, 3), false, &[4, 5, 6, 7]),
+        (Call::Replace(2, 8), true, &[4, 5, 8, 7]),
+        (Call::Remove(1), true, &[4, 8, 7]),
+        (Call::Replace(3, 2), false, &[4, 8, 7]),
+        (Call::Insert(3, 1), true, &[4, 8, 7, 1]),
+    ];
+
+    // A node as memory may hold it before a tree is made.
+    fn node<E, S>(item: E, sum: S) -> Node<E, S> {
+        Node {
+            item,
+            left: Some(7),
+            right: Some(0),
+            size: 9,
+            sum,
+        }
+    }
+
+    // Runs the calls, and tells the summaries of the first item and of the others.
+    fn run<E: Element<Sum = S> + PartialEq + Drop, S: Copy, F: Fn(u8) -> E>(
+        rt: &impl Abort,
+        nodes: &mut [Node<E, S>],
+        make: F,
+    ) -> (S, S)
+        requires { F.IsAlwaysCallable make }
+    {
+        let mut tree = Tree::new(nodes);
+        assert_eq!(rt; tree.capacity(), 4);
+        for (call, accepted, list) in CALLS {
+            let done = match call {
+                Call::Insert(place, n) => tree.insert_at(place, make(n)).is_ok(),
+                Call::Remove(place) => tree.remove_at(place).is_some(),
+                Call::Replace(place, n) => tree.replace_at(place, make(n)).is_some(),
+            };
+            assert_eq!(rt; done, accepted);
+            assert_eq!(rt; tree.count(), list.len());
+            for place in 0..5 {
+                let n = list.get(place).copied();
+                assert!(rt; tree.at(place) == n.map(|n| make(n)));
+                assert_eq!(rt; tree.depth_at(place).is_some(), n.is_some());
+            }
+        }
+        assert_eq!(rt; tree.most(), 4);
+        let sums = (tree.sum_before(1), tree.sum_from(1));
+        tree.clear();
+        assert!(rt; tree.at(0).is_none());
+        sums
+    }
+
+    #[test]
+    fn numbers(rt: HostRuntime) {
+        let mut nodes = [node(Number(0), 3); 4];
+        assert_eq!(rt; run(&rt, &mut nodes, Number), (4, 8));
+    }
+
+    #[test]
+    fn letters(rt: HostRuntime) {
+        let letter = |n: u8| Letter(char::from(b'a' + n % 26));
+        let mut nodes = [node(Letter('z'), None); 4];
+        assert_eq!(rt; run(&rt, &mut nodes, letter), (Some('e'), Some('i')));
     }
 }
