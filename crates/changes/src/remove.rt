@@ -1,5 +1,5 @@
 // Taking the item at a place out of a tree.
-// The slice stands beside the root: a type that keeps a fact about a `&mut` slice cannot lend the slice on.
+// The slice stands beside the root: the borrow checker does not cover a type that keeps a fact about a `&mut` slice and lends it on.
 ghost use Rattle.std.specs.Prelude.{◌≡◌, ℕ, ◌^◌, ◌<◌, ◌≤◌, Bool, false, ◌⊎◌, Some, None, Option};
 ghost use Rattle.nodes.specs.Tree.{Tree, size, height};
 ghost use Rattle.std.specs.List.{slice_get};

@@ -1,5 +1,5 @@
 // Putting another item in the place of one.
-// The slice stands beside the root: a type that keeps a fact about a `&mut` slice cannot lend the slice on.
+// The slice stands beside the root: the borrow checker does not cover a type that keeps a fact about a `&mut` slice and lends it on.
 ghost use Rattle.std.specs.Prelude.{◌≡◌, Bool};
 ghost use Rattle.nodes.specs.Tree.{Tree};
 ghost use Rattle.nodes.specs.Holding.{Holds};

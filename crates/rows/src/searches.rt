@@ -1,4 +1,5 @@
-// A date line's questions, answered by descents.
+// A date line's questions, answered by descents. What a promise needs of the rows is its premise: a type that kept it would ask
+// it of every caller.
 ghost use Rattle.std.specs.Prelude.{◌≡◌, ◌≤◌, true};
 ghost use Rattle.std.specs.Option.{option_map};
 ghost use Rattle.nodes.specs.Tree.{Tree, size};
