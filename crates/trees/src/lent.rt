@@ -62,8 +62,11 @@ impl<'a, E: Element<Sum = S>, S: Copy> Lent<'a, E, S> {
         requires { Structured self.now.nodes.now self.now.links }
         ensures { DepthTold (tree_of self.now.nodes.now self.now.links) self.now.links.most place result }
     {
-        let found = to_item::<E>(self.nodes, self.links.root, place)?;
-        Some(found.path.len())
+        let all = Part::<E> {
+            nodes: self.nodes,
+            link: self.links.root,
+        };
+        Some(to_item(&all, place)?.path.len())
     }
 
     // Forgets every item: all slots are free.
