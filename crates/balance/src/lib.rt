@@ -13,7 +13,8 @@ pub const WHOLE: usize = 3;
 // The greatest count of items of a tree.
 pub const MOST_ITEMS: usize = 4096;
 
-// The greatest depth d with WHOLE^d ≤ PART^d × m. No items are allowed what one is; more than a tree holds are read as that.
+// The greatest depth d with WHOLE^d ≤ PART^d × m. No items are allowed as deep a tree as one item, and more than `MOST_ITEMS` as
+// deep a one as `MOST_ITEMS`.
 pub fn allowance(m: usize) -> usize
     ensures { Allowance part whole (min m most_items) result }
 {

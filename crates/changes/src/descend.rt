@@ -1,5 +1,4 @@
 // Going down to a place, with the way kept.
-// The slice stands beside the root, and in no `Part`: a way has room for a low tree alone, which a part does not keep.
 ghost use Rattle.std.specs.Prelude.{◌≡◌, ◌≤◌, false, None};
 ghost use Rattle.nodes.specs.Tree.{Tree, leaf, size};
 ghost use Rattle.nodes.specs.Holding.{Holds, size_at};
@@ -7,16 +6,15 @@ ghost use Rattle.changes.specs.Ways.{Shallow, Way, Reached};
 
 use crate::found::Found;
 use crate::path::{NO_STEP, Path, Side, Step};
-use nodes::{Element, Node, Part};
+use nodes::{Element, Part};
 
 // The way to the gap before the item at a place, or to the one at the end.
-pub fn to_gap<E: Element>(nodes: &[Node<E, E::Sum>], root: Option<usize>, place: usize) -> Path
-    requires shallow { Shallow E.empty E.whole nodes.now root }
-    requires within { place ≤ size_at nodes.now root }
-    ensures { (t : Tree E) → Holds false E.empty E.whole nodes.now root t → Way E.empty E.whole nodes.now root None result place t leaf }
+pub fn to_gap<E: Element>(all: &Part<E>, place: usize) -> Path
+    requires shallow { Shallow E.empty E.whole all.now.nodes.now all.now.link }
+    requires within { place ≤ size_at all.now.nodes.now all.now.link }
+    ensures { (t : Tree E) → Holds false E.empty E.whole all.now.nodes.now all.now.link t → Way E.empty E.whole all.now.nodes.now all.now.link None result place t leaf }
 {
     let mut path = Path::new(NO_STEP);
-    let all = Part::<E> { nodes, link: root };
     let mut part = all.again();
     let mut rest = place;
     while let Some(fork) = part.open() {
@@ -40,16 +38,11 @@ pub fn to_gap<E: Element>(nodes: &[Node<E, E::Sum>], root: Option<usize>, place:
 }
 
 // The node at a place, and the way to it; none past the end.
-pub fn to_item<E: Element>(
-    nodes: &[Node<E, E::Sum>],
-    root: Option<usize>,
-    place: usize,
-) -> Option<Found>
-    requires { Shallow E.empty E.whole nodes.now root }
-    ensures { (t : Tree E) → Holds false E.empty E.whole nodes.now root t → Reached E.empty E.whole nodes.now root place t result }
+pub fn to_item<E: Element>(all: &Part<E>, place: usize) -> Option<Found>
+    requires { Shallow E.empty E.whole all.now.nodes.now all.now.link }
+    ensures { (t : Tree E) → Holds false E.empty E.whole all.now.nodes.now all.now.link t → Reached E.empty E.whole all.now.nodes.now all.now.link place t result }
 {
     let mut path = Path::new(NO_STEP);
-    let all = Part::<E> { nodes, link: root };
     let mut part = all.again();
     let mut rest = place;
     while let Some(fork) = part.open() {

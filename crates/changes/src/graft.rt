@@ -1,5 +1,4 @@
 // Mending the way back up to the root, after the part at its end has changed.
-// The slice stands beside the root: a type that keeps a fact about a `&mut` slice cannot lend the slice on.
 ghost use Rattle.std.specs.Prelude.{◌≡◌, ℕ, Bool, List, Option};
 ghost use Rattle.nodes.specs.Tree.{Tree};
 ghost use Rattle.changes.specs.Frames.{Frame};

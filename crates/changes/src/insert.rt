@@ -1,5 +1,5 @@
 // Putting a new node at a place.
-// The slice stands beside the root: a type that keeps a fact about a `&mut` slice cannot lend the slice on.
+// The slice stands beside the root: the borrow checker does not cover a type that keeps a fact about a `&mut` slice and lends it on.
 ghost use Rattle.std.specs.Prelude.{◌≡◌, Bool};
 ghost use Rattle.nodes.specs.Tree.{Tree};
 ghost use Rattle.nodes.specs.Holding.{Holds};
@@ -9,7 +9,7 @@ use crate::descend::to_gap;
 use crate::graft::graft;
 use crate::grown::Grown;
 use crate::place::place;
-use nodes::{Element, Node};
+use nodes::{Element, Node, Part};
 
 // Puts an item, in a slot that the tree does not use, before the item at a place, or at the end.
 pub fn insert<E: Element>(
@@ -22,7 +22,7 @@ pub fn insert<E: Element>(
     requires { Room E.empty E.whole nodes.old root at slot }
     ensures { (must : Bool) (t : Tree E) → Holds must E.empty E.whole nodes.old root t → InsertedThere must E.empty E.whole nodes.old nodes.new at slot item t result }
 {
-    let path = to_gap::<E>(nodes, root, at);
+    let path = to_gap(&Part::<E> { nodes, link: root }, at);
     place::<E>(nodes, slot, item, None, None);
     let root = graft::<E>(nodes, path.as_slice(), Some(slot));
     Grown { root, path }

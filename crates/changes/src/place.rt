@@ -1,5 +1,5 @@
 // Writing one node over two parts.
-// The slice stands beside the root: a type that keeps a fact about a `&mut` slice cannot lend the slice on.
+// Both links are asked for: they lead into one slice, which is written to, so no two parts of a tree can stand for them.
 ghost use Rattle.std.specs.Prelude.{◌≡◌, ◌+◌, ◌^◌, ◌<◌, length, slice_set};
 ghost use Rattle.nodes.specs.Holding.{Shaped, size_at};
 ghost use Rattle.changes.specs.Placed.{Placed};

@@ -1,5 +1,5 @@
 // Taking the item at a place out of a tree.
-// The slice stands beside the root: a type that keeps a fact about a `&mut` slice cannot lend the slice on.
+// The slice stands beside the root: the borrow checker does not cover a type that keeps a fact about a `&mut` slice and lends it on.
 ghost use Rattle.std.specs.Prelude.{◌≡◌, ℕ, ◌^◌, ◌<◌, ◌≤◌, Bool, false, ◌⊎◌, Some, None, Option};
 ghost use Rattle.nodes.specs.Tree.{Tree, size, height};
 ghost use Rattle.std.specs.List.{slice_get};
@@ -16,7 +16,7 @@ use crate::path::{Side, Step};
 use crate::removed::Removed;
 use crate::replace::replace;
 use nodes::read::read_at;
-use nodes::{Element, Node};
+use nodes::{Element, Node, Part};
 
 // The first node of the part at the end of a path, and the way to it.
 fn to_first<E: Element>(nodes: &[Node<E, E::Sum>], from: Found) -> Found
@@ -88,7 +88,7 @@ pub fn remove<E: Element>(
     requires { Sound E.empty E.whole nodes.old root }
     ensures { (must : Bool) (t : Tree E) → Holds must E.empty E.whole nodes.old root t → Takes must E.empty E.whole nodes.old nodes.new at t result }
 {
-    let found = to_item::<E>(nodes, root, at)?;
+    let found = to_item(&Part::<E> { nodes, link: root }, at)?;
     let node = read_at(nodes, found.slot);
     match (node.left, node.right) {
         (None, rest) | (rest, None) => Some(take_out::<E>(nodes, &found, rest, node.item)),

@@ -38,7 +38,8 @@ pub trait Rack<P: Priority> {
         ensures same { capacity self.new ≡ capacity self.old }
         ensures changed { Changed P.Priority.not_behind (capacity self.old) (put_rule P.Priority.not_behind (capacity self.old) (folders self.old) folder.now) (folders self.old) (folders self.new) (reply list_refusal result) };
 
-    // Removes the folder of a priority and stamp.
+    // Removes the folder of a priority and stamp. They stand side by side, as the rules name them: a type of the two would be made
+    // for each call and taken apart in it.
     fn remove(&mut self, priority: &P, stamp: u32) -> Result<(), ListRefusal>
         ensures same { capacity self.new ≡ capacity self.old }
         ensures changed { Changed P.Priority.not_behind (capacity self.old) (remove_rule P.Priority.not_behind (folders self.old) priority.now stamp) (folders self.old) (folders self.new) (reply list_refusal result) };

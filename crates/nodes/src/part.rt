@@ -25,7 +25,7 @@ pub struct Fork<'a, E: Element> {
 }
 
 impl<'a, E: Element> Part<'a, E> {
-    // The same part once more, since a walk uses up the parts that it comes through.
+    // The same part once more, since a walk uses up the parts that it comes through. `Clone` is not derived over a ghost field.
     pub fn again(&self) -> Part<'a, E>
         ensures nodes { result.nodes.now ≡ self.now.nodes.now }
         ensures link { result.link ≡ self.now.link }

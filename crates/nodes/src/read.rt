@@ -8,7 +8,7 @@ ghost use Rattle.nodes.specs.Holding.{Holds};
 use crate::element::Element;
 use crate::part::{Fork, Part};
 
-// Indexing, as proofs cite it. At a type whose size is open it leaves a goal about that size, which is met here once.
+// Indexing at any type, in the words in which proofs cite it.
 pub fn read_at<T: Copy>(slice: &[T], i: usize) -> T
     requires { i < length slice.now }
     ensures { slice_get slice.now i ≡ Some result }
@@ -18,7 +18,7 @@ pub fn read_at<T: Copy>(slice: &[T], i: usize) -> T
 
 impl<'a, E: Element> Part<'a, E> {
     // The node at a place, or none past the end.
-    pub fn node_at(&self, place: usize) -> Option<Fork<'a, E>>
+    fn node_at(&self, place: usize) -> Option<Fork<'a, E>>
         ensures item { (t : Tree E) → Holds false E.empty E.whole self.now.nodes.now self.now.link t → option_map (λ f. f.node.item) result ≡ slice_get (items t) place }
         ensures slot { (t : Tree E) → Holds false E.empty E.whole self.now.nodes.now self.now.link t → option_map (λ f. f.slot) result ≡ slice_get (slots t) place }
     {

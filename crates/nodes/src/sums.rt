@@ -8,7 +8,8 @@ use crate::element::Element;
 use crate::part::Part;
 use crate::pending::Pending;
 
-// The summary of what was passed and then a part.
+// The summary of what was passed and then a part. A `match` here and below: through the closure of a `map_or` the proof was not
+// found.
 fn then_part<E: Element>(passed: Option<Pending<E, E::Sum>>, part: &E::Sum) -> E::Sum
     ensures { (done : List E) (t : Tree E) → Ends E.empty E.whole done passed → summary E.empty E.whole t ≡ part.now → Summarizes E.empty E.whole (done ++ items t) result }
 {

@@ -1,6 +1,6 @@
 -- Bytes and numbers are each other's inverse.
-use Rattle.std.specs.Prelude.{◌≡◌, ℕ, zero, suc, ◌+◌, ◌*◌, ◌/◌, ◌%◌, ◌^◌, ◌<◌, List, [], ◌∷◌, length, slice_index, refl}
-use Rattle.std.proofs.Common.{sym, ap, ◌∙◌, mod-eq_of_lt, mul_assoc, add_comm, arith}
+use Rattle.std.specs.Prelude.{◌≡◌, ℕ, zero, suc, ◌+◌, ◌*◌, ◌/◌, ◌%◌, ◌^◌, ◌<◌, List, [], ◌∷◌, length, drop, slice_index, refl}
+use Rattle.std.proofs.Common.{sym, ap, ◌∙◌, mod-eq_of_lt, mul_assoc, add_comm, arith, length-drop, drop-cons}
 use Rattle.std.proofs.Math.Nat.{mod-one, one-le-pow, pow-succ', add-mul-div_right, add-mul-mod_self_right}
 use Rattle.std.proofs.Math.Arith.{mod-mul, digits_div, digits_lt}
 use Rattle.std.specs.List.{AllByRecursion}
@@ -41,6 +41,16 @@ bytes_number (b ∷ bs) h =
     let low : bytes (length bs) (b * 256 ^ length bs + number bs) ≡ bs = bytes_over (length bs) b (number bs) ∙ bytes_number bs h.1 in
     cc
 
+-- the number in the bytes from i on, of which there are k + 1
+pub number_drop : (bs : List ℕ) (i k : ℕ) → length bs ≡ i + suc k → number (drop i bs) ≡ slice_index bs i * 256 ^ k + number (drop (suc i) bs)
+number_drop bs i k h =
+    let left : length (drop (suc i) bs) ≡ k = length-drop (suc i) bs ∙ omega arith in
+    ap number (drop-cons bs i 0 (omega arith)) ∙ ap (λ j. slice_index bs i * 256 ^ j + number (drop (suc i) bs)) left
+
 pub all_bytes : (bs : List ℕ) → ((i : ℕ) → slice_index bs i < 256) → AllByRecursion (λ b. b < 256) bs
 all_bytes [] h = tt
 all_bytes (b ∷ bs) h = (h 0, all_bytes bs (λ i. h (suc i)))
+
+-- eight bytes, one by one
+pub spread : (b : List ℕ) (n : ℕ) → b ≡ bytes 8 n → slice_index b 0 ∷ slice_index b 1 ∷ slice_index b 2 ∷ slice_index b 3 ∷ slice_index b 4 ∷ slice_index b 5 ∷ slice_index b 6 ∷ slice_index b 7 ∷ [] ≡ bytes 8 n
+spread b n e = ap (λ (b : List ℕ). slice_index b 0 ∷ slice_index b 1 ∷ slice_index b 2 ∷ slice_index b 3 ∷ slice_index b 4 ∷ slice_index b 5 ∷ slice_index b 6 ∷ slice_index b 7 ∷ []) e

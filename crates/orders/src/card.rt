@@ -10,7 +10,7 @@ use crate::bytes::{first_two, joined, last_eight, two_bytes};
 use crate::priority::{Priority, PriorityFault};
 use crate::written::Written;
 
-// The greatest deadline day, which is the greatest number of sixteen bits.
+// The greatest deadline day: the greatest number of sixteen bits, as the conversion to them tests.
 pub const MOST_DAY: u32 = 65_535;
 
 // The greatest class.

@@ -69,6 +69,7 @@ fn remove_from<P: Priority>(
     requires { n ≤ length slots.old }
     ensures { Changed P.Priority.not_behind n (remove_rule P.Priority.not_behind (take n slots.old) priority.now stamp) (take n slots.old) (take (if is_ok result then n - 1 else n) slots.new) (reply list_refusal result) }
 {
+    // No `ok_or` with `?`: its conversion leaves more to prove.
     let Some(place) = place_of(&slots[..n], priority, stamp) else {
         return Err(ListRefusal::Absent);
     };

@@ -1,4 +1,4 @@
-// The first n items of a slice: one more, one fewer.
+// The first n items of a slice: one more, one fewer. What comes in or goes lies just behind them, so n stands beside the slice.
 ghost use Rattle.std.specs.Prelude.{◌≡◌, ◌+◌, ◌-◌, ◌<◌, ◌≤◌, ◌∷◌, ◌++◌, length, take, drop};
 
 // Puts x at a place of the first n items, which then are one more.

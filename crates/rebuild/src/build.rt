@@ -1,5 +1,4 @@
 // Building the balanced shape over slots in order.
-// The slice stands beside the root: a type that keeps a fact about a `&mut` slice cannot lend the slice on.
 ghost use Rattle.std.specs.Prelude.{◌≡◌, ℕ, ◌+◌, ◌-◌, ◌/◌, ◌^◌, ◌<◌, ◌≤◌, List, [], ◌∷◌, ◌++◌, length};
 ghost use Rattle.rebuild.specs.Shapes.{root_of, Labelled, Buildable, Rebuilt, Closable, Closed};
 

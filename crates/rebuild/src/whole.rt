@@ -1,5 +1,5 @@
 // Rebuilding a part of a tree.
-// The slice stands beside the root: a type that keeps a fact about a `&mut` slice cannot lend the slice on.
+// The slice stands beside the root: the borrow checker does not cover a type that keeps a fact about a `&mut` slice and lends it on.
 ghost use Rattle.std.specs.Prelude.{◌≡◌, Bool, false};
 ghost use Rattle.nodes.specs.Tree.{Tree, items, slots};
 ghost use Rattle.nodes.specs.Holding.{Holds};
@@ -14,7 +14,7 @@ pub fn rebuild<E: Element>(nodes: &mut [Node<E, E::Sum>], root: Option<usize>) -
     requires { Rebuildable E.empty E.whole nodes.old root }
     ensures { (t : Tree E) → Holds false E.empty E.whole nodes.old root t → Rebuilt E.empty E.whole nodes.old nodes.new (slots t) (items t) result }
 {
-    // Room for the slots of the largest tree.
+    // Room for the slots of the largest tree, in an array, since nothing here takes memory from the heap.
     let mut order = [0; 4096];
     let part = Part::<E> { nodes, link: root };
     let count = in_order(&part, &mut order);

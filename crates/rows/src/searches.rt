@@ -1,4 +1,5 @@
-// A date line's questions, answered by descents.
+// A date line's questions, answered by descents. What a promise needs of the rows is its premise: a type that kept it would ask
+// it of every caller.
 ghost use Rattle.std.specs.Prelude.{◌≡◌, ◌≤◌, true};
 ghost use Rattle.std.specs.Option.{option_map};
 ghost use Rattle.nodes.specs.Tree.{Tree, size};
@@ -44,7 +45,7 @@ fn place_after(row: Option<usize>) -> Option<usize>
     row.map(|i| i.saturating_add(1))
 }
 
-// The least place at or after this one with a sum of at most 0, or none.
+// The least place at or after this one with a sum of at most 0, or none. A date line asks it of each sum under a name of its own.
 fn first_low<P: Priority>(part: &Part<RowItem<P>>, sum: Sum, from: usize) -> Option<usize>
     ensures { (t : Tree (RowItem P)) → Holds true no_rows (sum_whole P.Priority.not_behind) part.now.nodes.now part.now.link t → size t ≤ most_entries → result ≡ first_low_from (running sum) (rows_in t) from }
 {

@@ -1,5 +1,4 @@
 // Rebuilding the part at a place of a way.
-// The slice stands beside the root: a type that keeps a fact about a `&mut` slice cannot lend the slice on.
 ghost use Rattle.std.specs.Prelude.{◌≡◌, ℕ, ◌≤◌, Bool, List, Option};
 ghost use Rattle.nodes.specs.Tree.{Tree, size};
 ghost use Rattle.nodes.specs.Holding.{Holds};

@@ -1,5 +1,5 @@
 // Putting a new node at a place, and rebuilding where it lies too deep.
-// The slice stands beside the root: a type that keeps a fact about a `&mut` slice cannot lend the slice on.
+// The slice stands beside the root: the borrow checker does not cover a type that keeps a fact about a `&mut` slice and lends it on.
 ghost use Rattle.std.specs.Prelude.{◌≡◌, Bool};
 ghost use Rattle.nodes.specs.Tree.{Tree};
 ghost use Rattle.nodes.specs.Holding.{Holds};
@@ -11,7 +11,8 @@ use crate::nearest_heavy;
 use changes::insert::insert as insert_leaf;
 use nodes::{Element, Node};
 
-// Puts an item at a place; where it then lies deeper than allowed, the part at its nearest heavy ancestor is rebuilt.
+// Puts an item at a place; where it then lies deeper than allowed, the part at its nearest heavy ancestor is rebuilt. There is one
+// where the allowance is that of a count not below the items; the arm without one serves other allowances.
 pub fn insert<E: Element>(
     nodes: &mut [Node<E, E::Sum>],
     root: Option<usize>,

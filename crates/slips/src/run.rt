@@ -11,7 +11,7 @@ pub struct Run {
     pub bytes: u64,
 }
 
-// The longest front whose decoded bytes sum to at most the cap.
+// The longest front whose decoded bytes sum to at most the cap. The loop counts since the count is part of the reply.
 pub fn plan(folders: &[Folder<Weight>], cap: u64) -> Run
     ensures { LongestFront folders.now cap result.count result.bytes }
 {

@@ -1,6 +1,6 @@
 // Folders in a tree, foremost first: those told, one more, one fewer.
-// That the summaries are right is kept by the rack, not by `Tree`, which would then ask for `Element` itself: a type over
-// `Racked<P>` for any P cannot hold a type with that bound.
+// That the summaries are right is kept by the rack. A ghost field of `Tree` for it would cite `E: Element`, and a type that
+// holds such a tree of `Racked<P>`, for any P, is not supported, as only a general `impl` meets that bound.
 ghost use Rattle.std.specs.Prelude.{◌≡◌};
 ghost use Rattle.std.specs.List.{slice_get};
 ghost use Rattle.orders.specs.Refusal.{reply};
@@ -50,6 +50,7 @@ pub(crate) fn put_in<P: Priority>(
     if present {
         return Err(ListRefusal::Present);
     }
+    // No `map_err`: through its closure the change was not proved.
     let Ok(()) = tree.insert_at(place, Racked { folder: *folder }) else {
         return Err(ListRefusal::Full);
     };
@@ -69,6 +70,7 @@ pub(crate) fn remove_from<P: Priority>(
     if !present {
         return Err(ListRefusal::Absent);
     }
+    // No `ok_or` with `?`: through its conversion the change was not proved.
     let Some(_) = tree.remove_at(place) else {
         return Err(ListRefusal::Absent);
     };

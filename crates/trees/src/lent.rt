@@ -17,8 +17,9 @@ use nodes::{Element, Node, Part};
 use upkeep::insert::insert;
 use upkeep::remove::remove;
 
-// That the links lie rightly in the nodes is kept by `Tree`: a type that keeps a fact about a `&mut` slice of its own cannot
-// lend the slice on, so it stands here without that fact, and these methods ask for it.
+// That the links lie rightly in the nodes is kept by `Tree`, and these methods ask for it: the borrow checker does not cover
+// a type that keeps a fact about a `&mut` slice of its own and lends the slice on. Those that only read stand here too, so
+// that the methods of `Tree` need no proofs of their own.
 #[derive(Drop)]
 pub struct Lent<'a, E, S> {
     pub nodes: &'a mut [Node<E, S>],
@@ -61,8 +62,11 @@ impl<'a, E: Element<Sum = S>, S: Copy> Lent<'a, E, S> {
         requires { Structured self.now.nodes.now self.now.links }
         ensures { DepthTold (tree_of self.now.nodes.now self.now.links) self.now.links.most place result }
     {
-        let found = to_item::<E>(self.nodes, self.links.root, place)?;
-        Some(found.path.len())
+        let all = Part::<E> {
+            nodes: self.nodes,
+            link: self.links.root,
+        };
+        Some(to_item(&all, place)?.path.len())
     }
 
     // Forgets every item: all slots are free.
@@ -85,6 +89,7 @@ impl<'a, E: Element<Sum = S>, S: Copy> Lent<'a, E, S> {
         if links.count >= MOST_ITEMS {
             return Err(TreeRefusal::Full);
         }
+        // No `ok_or` with `?`: its conversion leaves more to prove.
         let Some(slot) = links.free else {
             return Err(TreeRefusal::Full);
         };

@@ -1,4 +1,5 @@
-// Where a tree and its free slots begin in their slice, and its counts.
+// Where a tree and its free slots begin in their slice, and its counts. Slots are numbers: the memory is lent, none is from the
+// heap.
 
 #[derive(Clone, Copy)]
 pub struct Links {

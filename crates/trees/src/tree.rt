@@ -15,8 +15,8 @@ use balance::MOST_ITEMS;
 use nodes::{Element, Node, Part, Probe};
 
 // A list of items by place. Its meaning is `listed`, the items in order, and `capacity_of`. Its structure is right
-// whatever is called. That its summaries are right is kept by whoever holds a tree: they hang on what the elements are, and
-// a type over one kind of element cannot hold a tree that asks for that bound itself.
+// whatever is called. That its summaries are right is kept by whoever holds a tree: a ghost field for it would cite
+// `E: Element`, and a type over one general kind of element cannot hold a tree with such a field.
 #[derive(Drop)]
 pub struct Tree<'a, E, S> {
     pub lent: Lent<'a, E, S>,

@@ -1,5 +1,5 @@
 // Putting a new node at a place, and rebuilding where it lies too deep.
-// The slice stands beside the root: a type that keeps a fact about a `&mut` slice cannot lend the slice on.
+// The slice stands beside the root: the borrow checker does not cover a type that keeps a fact about a `&mut` slice and lends it on.
 ghost use Rattle.std.specs.Prelude.{◌≡◌, Bool};
 ghost use Rattle.nodes.specs.Tree.{Tree};
 ghost use Rattle.nodes.specs.Holding.{Holds};

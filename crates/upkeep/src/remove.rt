@@ -1,5 +1,5 @@
 // Taking out the item at a place, and rebuilding the whole tree where few are left.
-// The slice stands beside the root: a type that keeps a fact about a `&mut` slice cannot lend the slice on.
+// The slice stands beside the root: the borrow checker does not cover a type that keeps a fact about a `&mut` slice and lends it on.
 ghost use Rattle.std.specs.Prelude.{◌≡◌, Bool};
 ghost use Rattle.nodes.specs.Tree.{Tree};
 ghost use Rattle.nodes.specs.Holding.{Holds};
