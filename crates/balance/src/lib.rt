@@ -36,3 +36,27 @@ fn deeper(m: usize, depth: usize, over: usize, under: usize) -> usize
     }
     deeper(m, depth + 1, over * WHOLE, under * PART)
 }
+
+#[cfg(test)]
+mod tests {
+    use super::*;
+
+    // Counts, and their allowances worked out by hand from the two powers.
+    const ALLOWANCES: [(usize, usize); 8] = [
+        (0, 0),
+        (1, 0),
+        (2, 1),
+        (3, 2),
+        (3_325, 19),
+        (3_326, 20),
+        (4_096, 20),
+        (usize::MAX, 20),
+    ];
+
+    #[test]
+    fn allowances(rt: HostRuntime) {
+        for (m, depth) in ALLOWANCES {
+            assert_eq!(rt; allowance(m), depth);
+        }
+    }
+}
