@@ -11,7 +11,8 @@ use crate::grown::Grown;
 use crate::place::place;
 use nodes::{Element, Node, Part};
 
-// Puts an item, in a slot that the tree does not use, before the item at a place, or at the end.
+// Puts an item, in a slot that the tree does not use, before the item at a place, or at the end. Place, slot and item come from
+// three sides, here and in the insertions above: a struct of them would be made for each call.
 pub fn insert<E: Element>(
     nodes: &mut [Node<E, E::Sum>],
     root: Option<usize>,

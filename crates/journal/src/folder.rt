@@ -21,7 +21,8 @@ impl<P: Priority> Folder<P> {
             || (self.priority.not_behind(&other.priority) && self.stamp < other.stamp)
     }
 
-    // Whether this is the folder of a priority and stamp, side by side as for `Rack::remove`: its priority ties, its stamp is the same.
+    // Whether this is the folder of a priority and stamp, side by side as for `Rack::remove`: its priority ties, its stamp is the
+    // same.
     pub fn has_key(&self, priority: &P, stamp: u32) -> bool
         ensures { result ≡ same_key P.Priority.not_behind priority.now stamp self.now }
     {

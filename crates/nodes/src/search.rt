@@ -1,4 +1,5 @@
 // Searches by probe: down one path, remembering the nearest part that has a hit on the far side, and then down there.
+// That a probe is lawful is a premise of what they promise: a type that kept it would ask it of every caller.
 ghost use Rattle.std.specs.Prelude.{◌≡◌, ◌+◌, true, ◌||◌, take, drop};
 ghost use Rattle.nodes.specs.Tree.{Tree, items, size, summary, before_of, onward, up_to};
 ghost use Rattle.nodes.specs.Holding.{Holds};

@@ -90,7 +90,7 @@ impl PartialEq for Card {
         ensures value { result ≡ card_equals self.now other.now }
         ensures meaning { IsTrue result ↔ (card_canonical self.now ≡ card_canonical other.now) }
     {
-        self.day() == other.day() && self.class() == other.class() && self.name() == other.name()
+        (self.day(), self.class(), self.name()) == (other.day(), other.class(), other.name())
     }
 }
 

@@ -30,14 +30,15 @@ fn place_for<P: Priority>(front: &[Folder<P>], folder: &Folder<P>) -> usize
     front.iter().take_while(|g| !folder.is_ahead_of(g)).count()
 }
 
-// The place of the first folder of a priority and stamp.
+// The place of the first folder of a priority and stamp, side by side as for `Rack::remove`.
 fn place_of<P: Priority>(front: &[Folder<P>], priority: &P, stamp: u32) -> Option<usize>
     ensures { result ≡ position (λ g. same_key P.Priority.not_behind priority.now stamp g) front.now }
 {
     front.iter().position(|g| g.has_key(priority, stamp))
 }
 
-// Puts a folder among the first n, in its place.
+// Puts a folder among the first n, in its place. It comes in just behind them at the most, so n and the capacity stand beside the
+// slots.
 fn put_in<P: Priority>(
     slots: &mut [Folder<P>],
     n: usize,
@@ -69,7 +70,7 @@ fn remove_from<P: Priority>(
     requires { n ≤ length slots.old }
     ensures { Changed P.Priority.not_behind n (remove_rule P.Priority.not_behind (take n slots.old) priority.now stamp) (take n slots.old) (take (if is_ok result then n - 1 else n) slots.new) (reply list_refusal result) }
 {
-    // No `ok_or` with `?`: its conversion leaves more to prove.
+    // `ok_or` with `?` was tried: at the `?` no proof was found.
     let Some(place) = place_of(&slots[..n], priority, stamp) else {
         return Err(ListRefusal::Absent);
     };

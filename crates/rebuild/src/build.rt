@@ -1,4 +1,4 @@
-// Building the balanced shape over slots in order.
+// Building the balanced shape over slots in order. A range of them is two numbers, as a task has it.
 ghost use Rattle.std.specs.Prelude.{◌≡◌, ℕ, ◌+◌, ◌-◌, ◌/◌, ◌^◌, ◌<◌, ◌≤◌, List, [], ◌∷◌, ◌++◌, length};
 ghost use Rattle.rebuild.specs.Shapes.{root_of, Labelled, Buildable, Rebuilt, Closable, Closed};
 

@@ -21,7 +21,7 @@ pub struct RowSum<P> {
     pub foremost: Option<Folder<P>>,
 }
 
-// A row's stamp.
+// A row's stamp. Rows and entries are two enums: a trait for this one question would say no less than the two matches.
 pub fn stamp_of<P: Copy>(row: &Row<P>) -> u32
     ensures { result ≡ stamp_of (entry_of row.now) }
 {

@@ -26,7 +26,8 @@ pub(crate) fn folder_at<P: Priority>(
     Some(tree.at(place)?.folder)
 }
 
-// How many folders are ahead of a key, and whether the next one has it. A pair, as `place_of` answers.
+// How many folders are ahead of a key, and whether the next one has it. A pair, as `place_of` answers;
+// priority and stamp side by side, as for `Rack::remove`.
 fn rank_in<P: Priority>(
     tree: &Tree<'_, Racked<P>, Option<Folder<P>>>,
     priority: &P,
@@ -50,7 +51,7 @@ pub(crate) fn put_in<P: Priority>(
     if present {
         return Err(ListRefusal::Present);
     }
-    // No `map_err`: through its closure the change was not proved.
+    // `map_err` was tried: through its closure no proof was found.
     let Ok(()) = tree.insert_at(place, Racked { folder: *folder }) else {
         return Err(ListRefusal::Full);
     };
@@ -70,7 +71,7 @@ pub(crate) fn remove_from<P: Priority>(
     if !present {
         return Err(ListRefusal::Absent);
     }
-    // No `ok_or` with `?`: through its conversion the change was not proved.
+    // `ok_or` with `?` was tried: at the `?` no proof was found.
     let Some(_) = tree.remove_at(place) else {
         return Err(ListRefusal::Absent);
     };

@@ -18,8 +18,8 @@ use upkeep::insert::insert;
 use upkeep::remove::remove;
 
 // That the links lie rightly in the nodes is kept by `Tree`, and these methods ask for it: the borrow checker does not cover
-// a type that keeps a fact about a `&mut` slice of its own and lends the slice on. Those that only read stand here too, so
-// that the methods of `Tree` need no proofs of their own.
+// a type that keeps a fact about a `&mut` slice of its own and lends the slice on. Three that only read stand here
+// too, so that those of `Tree` need no proofs of their own.
 #[derive(Drop)]
 pub struct Lent<'a, E, S> {
     pub nodes: &'a mut [Node<E, S>],
@@ -89,7 +89,7 @@ impl<'a, E: Element<Sum = S>, S: Copy> Lent<'a, E, S> {
         if links.count >= MOST_ITEMS {
             return Err(TreeRefusal::Full);
         }
-        // No `ok_or` with `?`: its conversion leaves more to prove.
+        // `ok_or` with `?` was tried: at the `?` no proof was found.
         let Some(slot) = links.free else {
             return Err(TreeRefusal::Full);
         };

@@ -55,7 +55,8 @@ pub fn take_word(bytes: &[u8]) -> (&[u8], &[u8])
     solid.split_at(word_length(solid))
 }
 
-// The number that a word of digits writes, or the largest where that is greater; none of another word.
+// The number that a word of digits writes, or the largest where that is greater; none of another word, at once: a `try_fold` would
+// still have the empty word beside it.
 pub fn number(word: &[u8]) -> Option<u64>
     ensures { result ≡ decimal 18446744073709551615 word.now }
 {
