@@ -9,6 +9,7 @@ use Rattle.nodes.proofs.Held.{size_is_length, held_leaf, held_within, stored_rig
 use Rattle.nodes.proofs.Fronts.{drop_past}
 use Rattle.changes.specs.declared.path.Side.TheVariants.{Left, Right}
 use Rattle.changes.specs.declared.path.Step.{Step}
+use Rattle.changes.specs.Stacks.{stacked}
 use Rattle.changes.specs.declared.found.Found.{Found}
 use Rattle.changes.specs.Frames.{Frame, frame, plug, ahead, behind, Apart}
 use Rattle.changes.specs.Grafted.{Graft}
@@ -134,14 +135,14 @@ held_none nothing e = refl
 held_none (part node at left right sized summed) e = let z : ◌≡◌ {A = ℕ} 0 1 = cc in absurd (omega arith)
 
 module _ {E S : Type 0} {empty : S} {whole : S → E → S → S} {nodes : List (Node E S)} {root : Option ℕ} {place : ℕ} {all : Tree E} {found : Found} (l : Leads empty whole nodes root place all found) (h : Holds false empty whole nodes root all) {node : Node E S} (at : slice_get nodes found.slot ≡ Some node) where
-  firsts : Firsts empty whole nodes root l.skipped all found.slot found.path
+  firsts : Firsts empty whole nodes root l.skipped all found.slot (stacked found.path)
   firsts = record { part = l.part; way = l.way }
 
-  pub leads_room : height all ≤ 32 → length found.path < 32
+  pub leads_room : height all ≤ 32 → length (stacked found.path) < 32
   leads_room low = firsts_room firsts h at low
 
   -- the way on to the part after the item
-  pub way_after : {next : ℕ} {steps : List Step} → node.right ≡ Some next → steps ≡ found.path ++ (record { slot = found.slot; side = Right } ∷ []) → Way empty whole nodes root (Some next) steps (suc place) all (end l.way at h).after
+  pub way_after : {next : ℕ} {steps : List Step} → node.right ≡ Some next → steps ≡ stacked found.path ++ (record { slot = found.slot; side = Right } ∷ []) → Way empty whole nodes root (Some next) steps (suc place) all (end l.way at h).after
   way_after e pushed =
       let o = end l.way at h in
       let b : size (before_of l.part) ≡ size o.before = ap (λ u. size (before_of u)) o.is in

@@ -6,6 +6,7 @@ use Rattle.std.specs.List.{slice_get}
 use Rattle.nodes.specs.Holding.{Holds}
 use Rattle.changes.specs.declared.grown.Grown.{Grown}
 use Rattle.changes.specs.Frames.{Frame, steps_of, plug, ahead, Apart}
+use Rattle.changes.specs.Stacks.{stacked}
 
 -- the list with an item more, before the one at a place
 abbrev pub inserted : {E : Type 0} → ℕ → E → List E → List E
@@ -25,7 +26,7 @@ pub record Room {E S : Type 0} (empty : S) (whole : S → E → S → S) (nodes 
 -- the new node is a leaf at the end of the path; the list has one item more; slots outside are as they were
 pub record Inserted {E S : Type 0} (must : Bool) (empty : S) (whole : S → E → S → S) (entry exit : List (Node E S)) (place slot : ℕ) (item : E) (t : Tree E) (r : Grown) : Type 0 where
   pub frames : List (Frame E)
-  pub traced : steps_of frames ≡ r.path
+  pub traced : steps_of frames ≡ stacked r.path
   pub was : plug frames leaf ≡ t
   pub holds : Holds must empty whole exit r.root (plug frames (branch slot item leaf leaf))
   pub lists : items (plug frames (branch slot item leaf leaf)) ≡ inserted place item (items t)

@@ -1,6 +1,7 @@
 pub mod Frames
 pub mod Placed
 pub mod Grafted
+pub mod Stacks
 pub mod Ways
 pub mod Inserted
 pub mod Replaced

@@ -8,6 +8,7 @@ use Rattle.changes.specs.declared.found.Found.{Found}
 use Rattle.changes.specs.declared.removed.Removed.{Removed}
 use Rattle.changes.specs.Frames.{Apart}
 use Rattle.changes.specs.Ways.{Way, Leads}
+use Rattle.changes.specs.Stacks.{stacked}
 
 -- the list without the item at a place
 abbrev pub removed : {E : Type 0} → ℕ → List E → List E
@@ -20,13 +21,13 @@ pub record Beginning {E S : Type 0} (empty : S) (whole : S → E → S → S) (n
   pub all : Tree E
   pub part : Tree E
   pub holds : Holds false empty whole nodes root all
-  pub way : Way empty whole nodes root (Some from.slot) from.path skipped all part
+  pub way : Way empty whole nodes root (Some from.slot) (stacked from.path) skipped all part
   pub low : height all ≤ 32
 
 -- the way to a node with no part before it, as many items on as the way began with
 pub record Leftmost {E S : Type 0} (empty : S) (whole : S → E → S → S) (nodes : List (Node E S)) (root : Option ℕ) (skipped : ℕ) (all : Tree E) (r : Found) : Type 0 where
   pub part : Tree E
-  pub way : Way empty whole nodes root (Some r.slot) r.path skipped all part
+  pub way : Way empty whole nodes root (Some r.slot) (stacked r.path) skipped all part
   pub bare : before_of part ≡ leaf
 
 -- the way to a node with this item that has at most one part, the one at the link

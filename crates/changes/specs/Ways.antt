@@ -6,6 +6,7 @@ use Rattle.nodes.specs.Holding.{Holds}
 use Rattle.changes.specs.declared.path.Step.{Step}
 use Rattle.changes.specs.declared.found.Found.{Found}
 use Rattle.changes.specs.Frames.{Frame, steps_of, plug, ahead, Around}
+use Rattle.changes.specs.Stacks.{stacked}
 
 -- the slice holds some tree at the link, not too deep for a path
 pub record Shallow {E S : Type 0} (empty : S) (whole : S → E → S → S) (nodes : List (Node E S)) (link : Option ℕ) : Type 0 where
@@ -26,7 +27,7 @@ pub record Way {E S : Type 0} (empty : S) (whole : S → E → S → S) (nodes :
 pub record Leads {E S : Type 0} (empty : S) (whole : S → E → S → S) (nodes : List (Node E S)) (root : Option ℕ) (place : ℕ) (all : Tree E) (found : Found) : Type 0 where
   pub part : Tree E
   pub skipped : ℕ
-  pub way : Way empty whole nodes root (Some found.slot) found.path skipped all part
+  pub way : Way empty whole nodes root (Some found.slot) (stacked found.path) skipped all part
   pub at : skipped + size (before_of part) ≡ place
 
 -- none just past the end

@@ -3,6 +3,7 @@ ghost use Rattle.std.specs.Prelude.{◌≡◌, ◌≤◌, false, None};
 ghost use Rattle.nodes.specs.Tree.{Tree, leaf, size};
 ghost use Rattle.nodes.specs.Holding.{Holds, size_at};
 ghost use Rattle.changes.specs.Ways.{Shallow, Way, Reached};
+ghost use Rattle.changes.specs.Stacks.{stacked};
 
 use crate::found::Found;
 use crate::path::{NO_STEP, Path, Side, Step};
@@ -12,7 +13,7 @@ use nodes::{Element, Part};
 pub fn to_gap<E: Element>(all: &Part<E>, place: usize) -> Path
     requires shallow { Shallow E.empty E.whole all.now.nodes.now all.now.link }
     requires within { place ≤ size_at all.now.nodes.now all.now.link }
-    ensures { (t : Tree E) → Holds false E.empty E.whole all.now.nodes.now all.now.link t → Way E.empty E.whole all.now.nodes.now all.now.link None result place t leaf }
+    ensures { (t : Tree E) → Holds false E.empty E.whole all.now.nodes.now all.now.link t → Way E.empty E.whole all.now.nodes.now all.now.link None (stacked result) place t leaf }
 {
     let mut path = Path::new(NO_STEP);
     let mut part = all.again();

@@ -1,7 +1,7 @@
 // A node, with the way to it.
 use crate::path::Path;
 
-#[derive(Drop)]
+#[derive(Clone, Copy)]
 pub struct Found {
     pub path: Path,
     pub slot: usize,

@@ -15,6 +15,7 @@ pub mod removed;
 pub mod replace;
 pub mod slots;
 pub mod stack;
+mod stacking;
 
 pub use path::{Path, Side, Step};
 pub use stack::Stack;

@@ -7,6 +7,7 @@ ghost use Rattle.nodes.specs.Holding.{Holds};
 ghost use Rattle.changes.specs.Frames.{Apart};
 ghost use Rattle.changes.specs.Replaced.{Sound};
 ghost use Rattle.changes.specs.Ways.{Way, Leads};
+ghost use Rattle.changes.specs.Stacks.{stacked};
 ghost use Rattle.changes.specs.Removed.{FoundWay, TakenOut, TakesOut, Takes, Beginning, Leftmost, Inner};
 
 use crate::descend::to_item;
@@ -21,7 +22,7 @@ use nodes::{Element, Node, Part};
 // The first node of the part at the end of a path, and the way to it.
 fn to_first<E: Element>(nodes: &[Node<E, E::Sum>], from: Found) -> Found
     requires { Beginning E.empty E.whole nodes.now from }
-    ensures { (root : Option ℕ) (skipped : ℕ) (all t : Tree E) → Holds false E.empty E.whole nodes.now root all → height all ≤ 32 → Way E.empty E.whole nodes.now root (Some from.slot) from.path skipped all t → Leftmost E.empty E.whole nodes.now root skipped all result }
+    ensures { (root : Option ℕ) (skipped : ℕ) (all t : Tree E) → Holds false E.empty E.whole nodes.now root all → height all ≤ 32 → Way E.empty E.whole nodes.now root (Some from.slot) (stacked from.path) skipped all t → Leftmost E.empty E.whole nodes.now root skipped all result }
 {
     let mut path = from.path;
     let mut slot = from.slot;

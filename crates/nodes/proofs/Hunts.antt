@@ -1,5 +1,6 @@
 -- What a search keeps while it goes down.
 use Rattle.std.proofs.Common.{◌≡◌, ℕ, suc, ◌+◌, ◌^◌, ◌<◌, Bool, true, false, cond, ◌||◌, List, [], ◌∷◌, ◌++◌, length, Some, None, Option, sym, refl, ap, ◌∙◌, subst, append_assoc, append-nil, zero-add, arith}
+use Rattle.std.proofs.lemmas.Option.{slice_get_past}
 use Rattle.std.specs.List.{slice_get}
 use Rattle.std.specs.Option.{option_or, unwrap_or}
 use Rattle.nodes.specs.declared.node.Node.{Node}
@@ -262,3 +263,14 @@ pub ranked : {P E S : Type 0} (rules : Rules P E S) (p : P) (xs : List E) {answe
 ranked rules p xs n is before =
     let at : unwrap_or (first_in rules p 0 xs) (length xs) ≡ n = ap (unwrap_or (first_in rules p 0 xs)) (sym (zero-add (length xs))) ∙ before ∙ zero-add n in
     is ∙ ap (λ k. (k, slice_get xs k)) at
+
+-- a search's answer and the item there are the rank; so are the length and no item, where nothing hits
+module _ {P E S : Type 0} (rules : Rules P E S) (p : P) (xs : List E) where
+  abbrev rank_by : Option ℕ → ℕ × Option E
+  rank_by hit = let place = unwrap_or hit (length xs) in (place, slice_get xs place)
+
+  pub rank_some : {place : ℕ} {item : Option E} → first_in rules p 0 xs ≡ Some place → item ≡ slice_get xs place → (place, item) ≡ rank_in rules p xs
+  rank_some {place} hit item = ap (λ i. (place, i)) item ∙ sym (ap rank_by hit)
+
+  pub rank_none : {n : ℕ} → first_in rules p 0 xs ≡ None → n ≡ length xs → (n, None) ≡ rank_in rules p xs
+  rank_none miss all = ap (λ n. (n, None)) all ∙ ap (λ i. (length xs, i)) (sym (slice_get_past xs (length xs) (omega arith))) ∙ sym (ap rank_by miss)

@@ -177,7 +177,10 @@ impl<'a, E: Element> Part<'a, E> {
     pub fn rank<P: Probe<E, E::Sum>>(&self, probe: P) -> (usize, Option<E>)
         ensures { (t : Tree E) → Holds true E.empty E.whole self.now.nodes.now self.now.link t → Lawful E.empty E.whole P.rules probe (items t) → result ≡ rank_in P.rules probe (items t) }
     {
-        let place = self.first_hit(probe, 0).unwrap_or(self.size());
-        (place, self.item_at(place))
+        // No `unwrap_or`: where nothing hits, a walk to the place past the end would find no item.
+        match self.first_hit(probe, 0) {
+            Some(place) => (place, self.item_at(place)),
+            None => (self.size(), None),
+        }
     }
 }

@@ -1,5 +1,6 @@
 // Building the balanced shape over slots in order. A range of them is two numbers, as a task has it.
 ghost use Rattle.std.specs.Prelude.{◌≡◌, ℕ, ◌+◌, ◌-◌, ◌/◌, ◌^◌, ◌<◌, ◌≤◌, List, [], ◌∷◌, ◌++◌, length};
+ghost use Rattle.changes.specs.Stacks.{stacked};
 ghost use Rattle.rebuild.specs.Shapes.{root_of, Labelled, Buildable, Rebuilt, Closable, Closed};
 
 use crate::task::{Task, Tasks};
@@ -33,8 +34,8 @@ fn close<E: Element>(nodes: &mut [Node<E, E::Sum>], order: &[usize], lo: usize, 
 fn split(tasks: &mut Tasks, lo: usize, count: usize)
     requires some { 0 < count }
     requires fits { lo + count < 2 ^ 64 }
-    requires room { length tasks.old + 3 ≤ 32 }
-    ensures { tasks.new ≡ tasks.old ++ (Task.Close lo count ∷ (Task.Build (lo + count / 2 + 1) (count - count / 2 - 1) ∷ (Task.Build lo (count / 2) ∷ []))) }
+    requires room { length (stacked tasks.old) + 3 ≤ 32 }
+    ensures { stacked tasks.new ≡ stacked tasks.old ++ (Task.Close lo count ∷ (Task.Build (lo + count / 2 + 1) (count - count / 2 - 1) ∷ (Task.Build lo (count / 2) ∷ []))) }
 {
     let before = count / 2;
     tasks.push(Task::Close { lo, count });
