@@ -1,2 +1,2 @@
-pub mod Copied
+pub mod Rotated
 pub mod Found

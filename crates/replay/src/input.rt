@@ -54,7 +54,21 @@ fn read_32(word: &[u8]) -> Result<u32, LineFault> {
     Ok(u32::try_from(read(word)?).unwrap_or(u32::MAX))
 }
 
-fn arrival(stamp: &[u8], weight: &[u8], number: &[u8]) -> Result<Request, LineFault> {
+// The one word that a text has, if it has no more than one.
+fn only_word(text: &[u8]) -> Result<&[u8], LineFault> {
+    let (word, rest) = take_word(text);
+    let (more, _) = take_word(rest);
+    if more.is_empty() {
+        Ok(word)
+    } else {
+        Err(LineFault::Unreadable)
+    }
+}
+
+fn arrival(text: &[u8]) -> Result<Request, LineFault> {
+    let (stamp, rest) = take_word(text);
+    let (weight, rest) = take_word(rest);
+    let number = only_word(rest)?;
     let stamp = read_32(stamp)?;
     let weight = read(weight)?;
     let number = read_32(number)?;
@@ -65,24 +79,15 @@ fn arrival(stamp: &[u8], weight: &[u8], number: &[u8]) -> Result<Request, LineFa
     })))
 }
 
-// The first five words, empty where there are fewer.
-fn five_words(text: &[u8]) -> [&[u8]; 5] {
-    let (first, rest) = take_word(text);
-    let (second, rest) = take_word(rest);
-    let (third, rest) = take_word(rest);
-    let (fourth, rest) = take_word(rest);
-    let (fifth, _) = take_word(rest);
-    [first, second, third, fourth, fifth]
-}
-
-// What a line asks for, if anything.
+// What a line asks for, if anything. Only as many words are cut off as the command has: most lines of some files are empty.
 fn read_line(line: &[u8]) -> Result<Option<Request>, LineFault> {
     let (text, _) = cut(line, b'#');
-    let request = match five_words(text) {
-        [b"", ..] => return Ok(None),
-        [b"arrival", stamp, weight, number, b""] => arrival(stamp, weight, number)?,
-        [b"taking", stamp, b"", ..] => Request::Slip(Entry::Taking(read_32(stamp)?)),
-        [b"run", cap, b"", ..] => Request::Run(read(cap)?),
+    let (command, rest) = take_word(text);
+    let request = match command {
+        b"" => return Ok(None),
+        b"arrival" => arrival(rest)?,
+        b"taking" => Request::Slip(Entry::Taking(read_32(only_word(rest)?)?)),
+        b"run" => Request::Run(read(only_word(rest)?)?),
         _ => return Err(LineFault::Unreadable),
     };
     Ok(Some(request))
