@@ -5,21 +5,19 @@ ghost use Rattle.trees.specs.Structures.{listed, capacity_of, tree_of, Structure
 ghost use Rattle.trees.specs.Depths.{DepthTold};
 ghost use Rattle.trees.specs.Operations.{Inserts, Removes, Replaces, Emptied};
 
+use crate::insert_at::insert_at;
 use crate::links::Links;
 use crate::making::emptied;
+use crate::reads;
 use crate::refusal::TreeRefusal;
+use crate::remove_at::remove_at;
+use crate::replace_at::replace_at;
 use balance::MOST_ITEMS;
-use changes::descend::to_item;
-use changes::replace::replace;
-use changes::slots::release;
-use nodes::read::read_at;
 use nodes::{Element, Node, Part};
-use upkeep::insert::insert;
-use upkeep::remove::remove;
 
-// That the links lie rightly in the nodes is kept by `Tree`, and these methods ask for it: the borrow checker does not cover
-// a type that keeps a fact about a `&mut` slice of its own and lends the slice on. Three that only read stand here
-// too, so that those of `Tree` need no proofs of their own.
+// Any nodes and any links: the methods that ask for nothing are public. That the links lie rightly in the nodes is kept by `Tree`,
+// and the other methods ask for it: the borrow checker does not cover a type that keeps a fact about a `&mut` slice of its own
+// and lends the slice on. Three of those only read, and stand here so that those of `Tree` need no proofs of their own.
 #[derive(Drop)]
 pub struct Lent<'a, E, S> {
     pub nodes: &'a mut [Node<E, S>],
@@ -28,7 +26,7 @@ pub struct Lent<'a, E, S> {
 
 impl<'a, E: Element<Sum = S>, S: Copy> Lent<'a, E, S> {
     // No items: all slots are free, whatever the memory held.
-    pub(crate) fn new(nodes: &'a mut [Node<E, S>]) -> Lent<'a, E, S>
+    pub fn new(nodes: &'a mut [Node<E, S>]) -> Lent<'a, E, S>
         ensures emptied { Emptied E.empty E.whole result.nodes.now result.links }
         ensures capacity { capacity_of result.nodes.now ≡ capacity_of nodes.old }
     {
@@ -36,12 +34,26 @@ impl<'a, E: Element<Sum = S>, S: Copy> Lent<'a, E, S> {
         Lent { nodes, links }
     }
 
+    // How many items there is room for: a slot for each, and no more than the allowances reach.
+    pub fn capacity(&self) -> usize
+        ensures { result ≡ capacity_of self.now.nodes.now }
+    {
+        self.nodes.len().min(MOST_ITEMS)
+    }
+
     pub(crate) fn count(&self) -> usize
         requires { Structured self.now.nodes.now self.now.links }
         ensures value { result ≡ length (listed self.now.nodes.now self.now.links) }
         ensures bound { result ≤ capacity_of self.now.nodes.now }
     {
-        self.links.count
+        reads::count::<E>(self.nodes, self.links)
+    }
+
+    // The greatest count since the whole tree was last rebuilt.
+    pub fn most(&self) -> usize
+        ensures { result ≡ self.now.links.most }
+    {
+        self.links.most
     }
 
     // The whole of it, as a part of a tree.
@@ -51,10 +63,7 @@ impl<'a, E: Element<Sum = S>, S: Copy> Lent<'a, E, S> {
         ensures root { result.link ≡ self.now.links.root }
         ensures holds { Holds false E.empty E.whole self.now.nodes.now self.now.links.root (tree_of self.now.nodes.now self.now.links) }
     {
-        Part {
-            nodes: self.nodes,
-            link: self.links.root,
-        }
+        reads::whole::<E>(self.nodes, self.links)
     }
 
     // How deep the item at a place lies, the root at depth 0; none past the end.
@@ -62,15 +71,11 @@ impl<'a, E: Element<Sum = S>, S: Copy> Lent<'a, E, S> {
         requires { Structured self.now.nodes.now self.now.links }
         ensures { DepthTold (tree_of self.now.nodes.now self.now.links) self.now.links.most place result }
     {
-        let all = Part::<E> {
-            nodes: self.nodes,
-            link: self.links.root,
-        };
-        Some(to_item(&all, place)?.path.len())
+        reads::depth_at::<E>(self.nodes, self.links, place)
     }
 
     // Forgets every item: all slots are free.
-    pub(crate) fn clear(&mut self)
+    pub fn clear(&mut self)
         ensures emptied { Emptied E.empty E.whole self.new.nodes.now self.new.links }
         ensures capacity { capacity_of self.new.nodes.now ≡ capacity_of self.old.nodes.now }
     {
@@ -82,29 +87,7 @@ impl<'a, E: Element<Sum = S>, S: Copy> Lent<'a, E, S> {
         requires { Structured self.old.nodes.now self.old.links }
         ensures { Inserts E.empty E.whole self.old.nodes.now self.old.links self.new.nodes.now self.new.links place item result }
     {
-        let links = self.links;
-        if place > links.count {
-            return Err(TreeRefusal::NoPlace);
-        }
-        if links.count >= MOST_ITEMS {
-            return Err(TreeRefusal::Full);
-        }
-        // `ok_or` with `?` was tried: at the `?` no proof was found.
-        let Some(slot) = links.free else {
-            return Err(TreeRefusal::Full);
-        };
-        let nodes = &mut *self.nodes;
-        let free = read_at(nodes, slot).left;
-        let count = links.count + 1;
-        let most = links.most.max(count);
-        let balanced = insert::<E>(nodes, links.root, place, slot, item, most);
-        self.links = Links {
-            root: balanced.root,
-            free,
-            count,
-            most: if balanced.whole { count } else { most },
-        };
-        Ok(())
+        insert_at::<E>(self.nodes, &mut self.links, place, item)
     }
 
     // Takes out the item at a place, whose slot is then the first free one; none past the end.
@@ -112,17 +95,7 @@ impl<'a, E: Element<Sum = S>, S: Copy> Lent<'a, E, S> {
         requires { Structured self.old.nodes.now self.old.links }
         ensures { Removes E.empty E.whole self.old.nodes.now self.old.links self.new.nodes.now self.new.links place result }
     {
-        let links = self.links;
-        let shrunk = remove::<E>(self.nodes, links.root, place, links.most)?;
-        let free = release(self.nodes, shrunk.slot, links.free);
-        let count = links.count - 1;
-        self.links = Links {
-            root: shrunk.root,
-            free,
-            count,
-            most: if shrunk.whole { count } else { links.most },
-        };
-        Some(shrunk.item)
+        remove_at::<E>(self.nodes, &mut self.links, place)
     }
 
     // Replaces the item at a place, and tells the one that was there; none past the end.
@@ -130,8 +103,6 @@ impl<'a, E: Element<Sum = S>, S: Copy> Lent<'a, E, S> {
         requires { Structured self.old.nodes.now self.old.links }
         ensures { Replaces E.empty E.whole self.old.nodes.now self.old.links self.new.nodes.now self.new.links place item result }
     {
-        let changed = replace::<E>(self.nodes, self.links.root, place, item)?;
-        self.links.root = changed.root;
-        Some(changed.item)
+        replace_at::<E>(self.nodes, &mut self.links, place, item)
     }
 }

@@ -10,7 +10,6 @@ ghost use Rattle.trees.specs.Operations.{Inserts, Removes, Replaces, Emptied};
 
 use crate::lent::Lent;
 use crate::refusal::TreeRefusal;
-use balance::MOST_ITEMS;
 use nodes::{Element, Node, Part, Probe};
 
 // A list of items by place. Its meaning is `listed`, the items in order, and `capacity_of`. Its structure is right
@@ -45,7 +44,7 @@ impl<'a, E: Element<Sum = S>, S: Copy> Tree<'a, E, S> {
     pub fn capacity(&self) -> usize
         ensures { result ≡ capacity_of self.now.lent.nodes.now }
     {
-        self.lent.nodes.len().min(MOST_ITEMS)
+        self.lent.capacity()
     }
 
     pub fn count(&self) -> usize
@@ -66,7 +65,7 @@ impl<'a, E: Element<Sum = S>, S: Copy> Tree<'a, E, S> {
     pub fn most(&self) -> usize
         ensures { result ≡ self.now.lent.links.most }
     {
-        self.lent.links.most
+        self.lent.most()
     }
 
     // How deep the item at a place lies, the root at depth 0; none past the end.
