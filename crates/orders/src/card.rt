@@ -10,7 +10,7 @@ use crate::bytes::{first_two, joined, last_eight, two_bytes};
 use crate::priority::{Priority, PriorityFault};
 use crate::written::Written;
 
-// The greatest deadline day: the greatest number of sixteen bits, as the conversion to them tests.
+// The greatest deadline day: the greatest number of sixteen bits.
 pub const MOST_DAY: u32 = 65_535;
 
 // The greatest class.
@@ -30,7 +30,9 @@ impl Card {
         ensures { reply priority_refusal result ≡ card_made day class name }
     {
         match (u16::try_from(day), u8::try_from(class)) {
-            (Ok(day), Ok(class)) if class <= MOST_CLASS => Ok(Card { day, class, name }),
+            (Ok(day), Ok(class)) if u32::from(day) <= MOST_DAY && class <= MOST_CLASS => {
+                Ok(Card { day, class, name })
+            }
             _ => Err(PriorityFault::OutOfBounds),
         }
     }

@@ -51,3 +51,7 @@ module _ {E S : Type 0} {must : Bool} {empty : S} {whole : S → E → S → S} 
                 let o = kept_there j all in
                 new.kept j all ∙ g.kept j o.0 o.1;
           }
+
+-- the same, where the allowance is told as a number of its own
+pub regrown_at : {E S : Type 0} {must : Bool} {empty : S} {whole : S → E → S → S} {entry exit : List (Node E S)} {place slot m allowed d : ℕ} {item : E} {t : Tree E} {r : Balanced} → Inserted must empty whole entry exit place slot item allowed t r → Allowance share all m d → d ≡ allowed → Within share all m t → size t < m → m ≤ most_items → Growth must empty whole entry exit place slot m item t r
+regrown_at {m = m} g al same low less few = regrown _ _ _ _ _ _ (subst (λ n. Allowance share all m n) same al) low less few g

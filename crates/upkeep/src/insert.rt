@@ -22,5 +22,7 @@ pub fn insert<E: Element>(
     requires { Fitting E.empty E.whole nodes.old root at slot m }
     ensures { (must : Bool) (t : Tree E) → Holds must E.empty E.whole nodes.old root t → Growth must E.empty E.whole nodes.old nodes.new at slot m item t result }
 {
-    insert_within::<E>(nodes, root, at, slot, item, allowance(m))
+    // Named, so that an edit of what becomes of it is refused for what it means.
+    let balanced = insert_within::<E>(nodes, root, at, slot, item, allowance(m));
+    balanced
 }
