@@ -29,12 +29,15 @@ impl Card {
     pub fn new(day: u32, class: u32, name: u64) -> Result<Card, PriorityFault>
         ensures { reply priority_refusal result ≡ card_made day class name }
     {
-        match (u16::try_from(day), u8::try_from(class)) {
-            (Ok(day), Ok(class)) if u32::from(day) <= MOST_DAY && class <= MOST_CLASS => {
-                Ok(Card { day, class, name })
-            }
-            _ => Err(PriorityFault::OutOfBounds),
+        if day > MOST_DAY || class > u32::from(MOST_CLASS) {
+            return Err(PriorityFault::OutOfBounds);
         }
+        // The bounds alone decide: a conversion that refuses by itself would leave the greatest day untested.
+        Ok(Card {
+            day: day as u16,
+            class: class as u8,
+            name,
+        })
     }
 
     pub fn day(&self) -> u16
@@ -69,7 +72,7 @@ impl Priority for Card {
 
     ghost unseen = { Prim.search rules };
 
-    // Part by part: a comparison of the three as a tuple took a third to a half more time.
+    // Part by part: a comparison of the three as a tuple took 1.4 to 1.6 times as long.
     fn not_behind(&self, other: &Card) -> bool {
         if self.day() != other.day() {
             self.day() < other.day()

@@ -1,5 +1,5 @@
 // The first n items of a slice: one more, one fewer. What comes in or goes lies just behind them, so n stands beside the slice.
-// By rotations, which move the items as one block: a copy within the slice goes item by item, and took twice the time.
+// By rotations, which move the items as one block: a copy within the slice goes item by item, and took half as much time again.
 ghost use Rattle.std.specs.Prelude.{◌≡◌, ◌+◌, ◌-◌, ◌<◌, ◌≤◌, ◌∷◌, ◌++◌, length, take, drop};
 
 // Puts x at a place of the first n items, which then are one more.

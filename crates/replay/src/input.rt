@@ -79,7 +79,8 @@ fn arrival(text: &[u8]) -> Result<Request, LineFault> {
     })))
 }
 
-// What a line asks for, if anything. Only as many words are cut off as the command has: most lines of some files are empty.
+// What a line asks for, if anything. Only as many words are cut off as the command has, and behind an unknown one none, since
+// they may be long.
 fn read_line(line: &[u8]) -> Result<Option<Request>, LineFault> {
     let (text, _) = cut(line, b'#');
     let (command, rest) = take_word(text);
