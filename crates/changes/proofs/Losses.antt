@@ -84,7 +84,11 @@ module _ {E S : Type 0} {must : Bool} {empty : S} {whole : S → E → S → S} 
 pub place_of : {E S : Type 0} {must : Bool} {empty : S} {whole : S → E → S → S} {nodes : List (Node E S)} {root : Option ℕ} {steps : List Step} {skipped slot place : ℕ} {node : Node E S} {all t : Tree E} (w : Way empty whole nodes root (Some slot) steps skipped all t) (at : slice_get nodes slot ≡ Some node) (h : Holds must empty whole nodes root all) → skipped + size (before_of t) ≡ place → length (ahead w.frames) + size (end w at h).before ≡ place
 place_of {skipped = skipped} w at h e = ap (λ n. n + size (end w at h).before) w.ahead_long ∙ ap (λ u. skipped + size (before_of u)) (sym (end w at h).is) ∙ e
 
--- where the walk to the first node has come to
+held_none : {E S : Type 0} {must : Bool} {empty : S} {whole : S → E → S → S} {nodes : List (Node E S)} {link : Option ℕ} {t : Tree E} → Holds must empty whole nodes link t → t ≡ leaf → link ≡ None
+held_none nothing e = refl
+held_none (part node at left right sized summed) e = let z : ◌≡◌ {A = ℕ} 0 1 = cc in absurd (omega arith)
+
+-- where the walk to the first node has come to, by a way that may be longer than a stack holds
 pub record Firsts {E S : Type 0} (empty : S) (whole : S → E → S → S) (nodes : List (Node E S)) (root : Option ℕ) (skipped : ℕ) (all : Tree E) (slot : ℕ) (steps : List Step) : Type 0 where
   pub part : Tree E
   pub way : Way empty whole nodes root (Some slot) steps skipped all part
@@ -117,6 +121,16 @@ module _ {E S : Type 0} {empty : S} {whole : S → E → S → S} {nodes : List 
     pub firsts_bare : node.left ≡ None → before_of f.part ≡ leaf
     firsts_bare e = let o = end f.way at h in ap before_of o.is ∙ held_leaf o.left e
 
+    pub firsts_none : before_of f.part ≡ leaf → node.left ≡ None
+    firsts_none bare = let o = end f.way at h in held_none o.left (sym (ap before_of o.is) ∙ bare)
+
+    -- the way on to the part after the item at a place
+    pub firsts_after : {place next : ℕ} {more : List Step} → skipped + size (before_of f.part) ≡ place → node.right ≡ Some next → more ≡ steps ++ (record { slot = slot; side = Right } ∷ []) → Way empty whole nodes root (Some next) more (suc place) all (end f.way at h).after
+    firsts_after p e pushed =
+        let o = end f.way at h in
+        let b : size (before_of f.part) ≡ size o.before = ap (λ u. size (before_of u)) o.is in
+        way_for (way_for_link (way_right f.way refl at o (size o.before) refl pushed) e refl) (omega arith) refl refl
+
 -- taking out the next item and putting it in the place of this one is taking out this one
 module _ {X : Type 0} where
   pub nth_removed : (xs : List X) (i : ℕ) → slice_get (removed (suc i) xs) i ≡ slice_get xs i
@@ -130,29 +144,13 @@ module _ {X : Type 0} where
   set_removed (x ∷ (z ∷ zs)) zero y e = let same : z ≡ y = cc in ap (λ w. w ∷ zs) (sym same)
   set_removed (x ∷ xs) (suc i) y e = ap (λ l. x ∷ l) (set_removed xs i y e)
 
-held_none : {E S : Type 0} {must : Bool} {empty : S} {whole : S → E → S → S} {nodes : List (Node E S)} {link : Option ℕ} {t : Tree E} → Holds must empty whole nodes link t → t ≡ leaf → link ≡ None
-held_none nothing e = refl
-held_none (part node at left right sized summed) e = let z : ◌≡◌ {A = ℕ} 0 1 = cc in absurd (omega arith)
-
--- a node at the end of a way, which may be longer than a stack holds; the lemmas on `Found` below follow, for a way in a stack
-module _ {E S : Type 0} {empty : S} {whole : S → E → S → S} {nodes : List (Node E S)} {root : Option ℕ} {steps : List Step} {skipped slot : ℕ} {all t : Tree E} (w : Way empty whole nodes root (Some slot) steps skipped all t) (h : Holds false empty whole nodes root all) {node : Node E S} (at : slice_get nodes slot ≡ Some node) where
-  -- the way on to the part after the item at a place
-  pub way_on : {place next : ℕ} {more : List Step} → skipped + size (before_of t) ≡ place → node.right ≡ Some next → more ≡ steps ++ (record { slot = slot; side = Right } ∷ []) → Way empty whole nodes root (Some next) more (suc place) all (end w at h).after
-  way_on p e pushed =
-      let o = end w at h in
-      let b : size (before_of t) ≡ size o.before = ap (λ u. size (before_of u)) o.is in
-      way_for (way_for_link (way_right w refl at o (size o.before) refl pushed) e refl) (omega arith) refl refl
-
-  -- with no part before it, a node has no link to the left
-  pub bare_left : before_of t ≡ leaf → node.left ≡ None
-  bare_left bare = let o = end w at h in held_none o.left (sym (ap before_of o.is) ∙ bare)
-
 -- with no part before it, a node has the place that the way to it began with
 pub bare_place : {E : Type 0} (t : Tree E) {skipped : ℕ} → before_of t ≡ leaf → skipped + size (before_of t) ≡ skipped
 bare_place t bare = let z = ap size bare in omega arith
 
+-- of a node that is found, whose way is in a stack, the lemmas above say this
 module _ {E S : Type 0} {empty : S} {whole : S → E → S → S} {nodes : List (Node E S)} {root : Option ℕ} {place : ℕ} {all : Tree E} {found : Found} (l : Leads empty whole nodes root place all found) (h : Holds false empty whole nodes root all) {node : Node E S} (at : slice_get nodes found.slot ≡ Some node) where
-  firsts : Firsts empty whole nodes root l.skipped all found.slot (stacked found.path)
+  abbrev firsts : Firsts empty whole nodes root l.skipped all found.slot (stacked found.path)
   firsts = record { part = l.part; way = l.way }
 
   pub leads_room : height all ≤ 32 → length (stacked found.path) < 32
@@ -160,14 +158,14 @@ module _ {E S : Type 0} {empty : S} {whole : S → E → S → S} {nodes : List 
 
   -- the way on to the part after the item
   pub way_after : {next : ℕ} {steps : List Step} → node.right ≡ Some next → steps ≡ stacked found.path ++ (record { slot = found.slot; side = Right } ∷ []) → Way empty whole nodes root (Some next) steps (suc place) all (end l.way at h).after
-  way_after e pushed = way_on l.way h at l.at e pushed
+  way_after e pushed = firsts_after firsts h at l.at e pushed
 
   -- the first node after it has the next place
   pub leads_next : {first : Found} → Leftmost empty whole nodes root (suc place) all first → Leads empty whole nodes root (suc place) all first
   leads_next m = record { part = m.part; skipped = suc place; way = m.way; at = bare_place m.part m.bare }
 
 pub next_bare : {E S : Type 0} {empty : S} {whole : S → E → S → S} {nodes : List (Node E S)} {root : Option ℕ} {skipped : ℕ} {all : Tree E} {first : Found} (m : Leftmost empty whole nodes root skipped all first) → Holds false empty whole nodes root all → {node : Node E S} → slice_get nodes first.slot ≡ Some node → node.left ≡ None
-next_bare m h at = bare_left m.way h at m.bare
+next_bare m h at = firsts_none (record { part = m.part; way = m.way }) h at m.bare
 
 -- a tree with a node less, and then another item at the place before
 module _ {E S : Type 0} {must : Bool} {empty : S} {whole : S → E → S → S} {entry middle : List (Node E S)} {place : ℕ} {t : Tree E} {out : Removed E} (o : TakenOut must empty whole entry middle (suc place) t out) where
